@@ -1,0 +1,6 @@
+use Rattle.std.proofs.Common.{◌∙◌}
+use Rattle.gx_base.proofs.MethodSearch.{find-methods}
+use Rattle.gx_base.proofs.kinds.method_of.Goals as goal
+
+pub returns : goal.returns
+returns c = c.named.ensures ∙ find-methods c.args.kind c.args.word.now _ _ c.first_method-first.ensures c.method_count.ensures

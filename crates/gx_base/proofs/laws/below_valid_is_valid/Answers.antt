@@ -1,0 +1,5 @@
+use Rattle.gx_base.specs.Laws.{below-IsValid}
+use Rattle.gx_base.proofs.laws.below_valid_is_valid.Goals as goal
+
+pub returns : goal.returns
+returns c = below-IsValid

@@ -1,0 +1,5 @@
+use Rattle.gx_base.specs.BodyLaws.{body-Replays}
+use Rattle.gx_base.proofs.laws.bodies_replay.Goals as goal
+
+pub returns : goal.returns
+returns c = body-Replays

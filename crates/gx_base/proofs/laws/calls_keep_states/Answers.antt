@@ -1,0 +1,5 @@
+use Rattle.gx_base.specs.Laws.{kind-next_state, next_state-IsState}
+use Rattle.gx_base.proofs.laws.calls_keep_states.Goals as goal
+
+pub returns : goal.returns
+returns c = record { state = next_state-IsState; kind = kind-next_state }

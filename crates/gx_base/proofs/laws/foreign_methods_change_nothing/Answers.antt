@@ -1,0 +1,5 @@
+use Rattle.gx_base.specs.ForeignMethods.{foreign-ChangesNothing}
+use Rattle.gx_base.proofs.laws.foreign_methods_change_nothing.Goals as goal
+
+pub returns : goal.returns
+returns c = foreign-ChangesNothing

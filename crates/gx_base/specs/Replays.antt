@@ -1,0 +1,34 @@
+-- The states of rooms, and the replay of steps over them.
+use Rattle.std.specs.Prelude.{◌≡◌, ℕ, ◌==◌, if◌then◌else◌, List, [], ◌∷◌, slice_index_or}
+use Rattle.std.specs.FinMap as map
+use Rattle.gx_base.specs.declared.calls.Made.{Made}
+use Rattle.gx_base.specs.declared.acts.Step.{Step}
+use Rattle.gx_base.specs.States.{State}
+use Rattle.gx_base.specs.Steps.{next_state, reply_to}
+
+-- an empty set
+abbrev pub no_state : State
+no_state = record { kind = 0; rows = map.empty }
+
+-- the states of rooms by their numbers, from those of a list; a room past its end counts as empty
+abbrev pub in_rooms : List State → ℕ → State
+in_rooms states room = slice_index_or states room no_state
+
+-- the same but for one number
+abbrev pub put : {A : Type 0} → (ℕ → A) → ℕ → A → ℕ → A
+put values place value number = if place == number then value else values number
+
+-- the call of a step, with its reply
+abbrev pub made_by : Step → Made
+made_by step = record { call = step.call; reply = step.reply }
+
+-- the projection of steps to a room
+abbrev pub part : ℕ → List Step → List Made
+part room [] = []
+part room (step ∷ steps) = if step.room == room then made_by step ∷ part room steps else part room steps
+
+-- the steps are legal from some states, and lead to others: each reply is that of its room's state at its turn
+abbrev pub Replays : (ℕ → State) → List Step → (ℕ → State) → Type 0
+Replays states [] ends = states ≡ ends
+Replays states (step ∷ steps) ends =
+    (reply_to (states step.room) step.call ≡ step.reply) × Replays (put states step.room (next_state (states step.room) step.call)) steps ends

@@ -1,0 +1,32 @@
+//! The plain data that every crate of Galois speaks of: calls and replies, work items, conditions on
+//! pairs of calls, tables of such conditions, and the trait of objects whose calls run one after another.
+//!
+//! `specs/` has what they mean. Start at `specs/Steps.antt`, which says what each call does to the
+//! abstract state of an object, and `specs/Tables.antt`, which says when a table of conditions is valid.
+//! `laws` has what follows from these definitions alone, as that every shipped table is valid.
+#![tactic(auto)]
+
+mod acts;
+mod calls;
+mod conditions;
+mod inputs;
+mod items;
+mod kinds;
+pub mod laws;
+mod memory;
+mod sequential;
+mod spots;
+mod tables;
+#[cfg(test)]
+mod tests;
+
+pub use acts::{Act, Entry, Step};
+pub use calls::{Call, Made, Reply, Room, Seen, Spot};
+pub use conditions::{Cond, Part, Side, Term, eval};
+pub use inputs::{InputFault, What};
+pub use items::Item;
+pub use kinds::{Choice, Kind, method_at, method_of, word_of};
+pub use memory::NoMemory;
+pub use sequential::SeqType;
+pub use spots::beyond;
+pub use tables::Table;
