@@ -1,0 +1,13 @@
+use Rattle.std.proofs.Common.{◌≡◌, length, ◌-◌, ◌≤◌, take}
+use Rattle.gx_io.specs.Sinks.{HasAdded}
+use Rattle.gx_io.proofs.sinks.write_whole.Given as goal
+
+abbrev pub invariant-loop-done : goal.invariant-loop-done
+invariant-loop-done g l = record {
+  within : l.done ≤ length l.bytes;
+  added : HasAdded (g.K.Sink.told l.fn.sink) (g.K.Sink.told l.sink) (take l.done l.bytes);
+  kept : g.K.Sink.faults l.sink ≡ g.K.Sink.faults l.fn.sink;
+}
+
+abbrev pub decreases-loop-done : goal.decreases-loop-done
+decreases-loop-done g l = length l.bytes - l.done

@@ -1,0 +1,25 @@
+//! Files that are read whole and a sink that is written whole, with every fault counted.
+//!
+//! Start at `Files` and `read_whole`, and at `Sink` and `write_whole`. `StdFiles` and `StdSink` are
+//! the real files and standard output. `MemFiles` and `MemSink` stand in memory, and fail at the
+//! calls that a test chooses; `NeverFails` round one of these answers no failure.
+#![tactic(auto)]
+
+mod calls;
+mod fault;
+mod files;
+mod memory_files;
+mod memory_sink;
+mod never;
+mod real;
+mod sinks;
+#[cfg(test)]
+mod tests;
+
+pub use fault::{IoFault, NoMemory, SinkFailed, WholeRefuse};
+pub use files::{Files, read_whole};
+pub use memory_files::MemFiles;
+pub use memory_sink::MemSink;
+pub use never::NeverFails;
+pub use real::{StdFiles, StdSink};
+pub use sinks::{Sink, write_whole};
