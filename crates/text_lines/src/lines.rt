@@ -1,0 +1,33 @@
+//! The lines of a text.
+
+ghost use Rattle.std.specs.Prelude.{◌≡◌, ◌<◌, ◌∷◌, length};
+ghost use Rattle.text_lines.specs.Lines.{lines_of, without_return_of};
+
+/// The first line, without its line feed and a carriage return before that, and the text after it.
+pub fn first_line(text: &[u8]) -> (&[u8], &[u8])
+    requires { 0 < length text.now }
+    ensures lines { lines_of text.now ≡ result.0.now ∷ lines_of result.1.now }
+    ensures shorter { length result.1.now < length text.now }
+{
+    for (at, byte) in text.iter().enumerate() {
+        if *byte == b'\n' {
+            return (without_return(&text[..at]), &text[at + 1..]);
+        }
+    }
+    (text, &text[text.len()..])
+}
+
+/// The line without one carriage return at its end.
+fn without_return(line: &[u8]) -> &[u8]
+    ensures { result.now ≡ without_return_of line.now }
+{
+    if line.is_empty() {
+        return line;
+    }
+    let end = line.len() - 1;
+    if line[end] == b'\r' {
+        &line[..end]
+    } else {
+        line
+    }
+}
