@@ -1,0 +1,8 @@
+pub mod SameLemmas
+pub mod Derived
+pub mod RowLemmas
+pub mod Standing
+pub mod Implied
+pub mod Bounds
+pub mod MethodLemmas
+pub mod TableLemmas

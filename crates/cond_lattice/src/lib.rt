@@ -1,0 +1,23 @@
+//! The order of conditions: their classes, the bounds of those that locks can keep, and when one
+//! condition, or a table of them, is below another.
+//!
+//! `specs/Grades.antt` has the classes, `specs/Derivations.antt` the rules by which a row is below another.
+#![tactic(auto)]
+
+mod classes;
+mod grades;
+mod rows;
+mod rules;
+mod same;
+mod simple;
+mod table_classes;
+mod table_rules;
+#[cfg(test)]
+mod tests;
+
+pub use classes::class;
+pub use grades::Grade;
+pub use rules::row_below;
+pub use simple::{join, meet, simple_below, strengthen};
+pub use table_classes::table_class;
+pub use table_rules::{NotBelow, below};
