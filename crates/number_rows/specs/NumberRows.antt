@@ -1,0 +1,24 @@
+-- What a `NumberRows` stands for.
+use Rattle.std.specs.Prelude.{ℕ, ℤ, length, FitsSigned}
+use Rattle.std.specs.Int.{w64}
+use Rattle.std.specs.Ordering.{int_cmp}
+use Rattle.std.specs.FinMap as map
+use Rattle.number_rows.specs.declared.rows.NumberRows.{NumberRows}
+use Rattle.number_rows.specs.Entries.{dead_in}
+use Rattle.number_rows.specs.EntryLaws.{FitAll-number_in}
+use Rattle.number_rows.specs.Rows.{number_in}
+
+-- the keys that have rows, with their numbers
+abbrev pub rows_of : NumberRows → map.FinMap int_cmp ℤ
+rows_of rows = map.from_entries rows.numbers.entries
+
+-- how many rows hold 0
+abbrev pub dead_rows : NumberRows → ℕ
+dead_rows rows = dead_in rows.numbers.entries
+
+abbrev pub row_count : NumberRows → ℕ
+row_count rows = length rows.numbers.entries
+
+-- each number is one of 64 bits
+pub number-fits : (rows : NumberRows) (k : ℤ) → FitsSigned w64 (number_in (rows_of rows) k)
+number-fits rows k = FitAll-number_in rows.numbers.entries rows.fit k

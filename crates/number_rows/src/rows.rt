@@ -1,0 +1,100 @@
+ghost use Rattle.std.specs.Prelude.{◌≡◌, ◌≤◌, ◌*◌, ℤ, IsTrue, IsOk, OnOk, OnErr, not};
+ghost use Rattle.number_rows.specs.Entries.{FitAll, dead_in, is_zero, found_zero, one_if};
+
+use gx_base::NoMemory;
+use indexmap::IndexMap;
+use std::alloc::Global;
+
+/// Numbers by key, which are 0 until they are written.
+#[derive(Drop)]
+pub struct NumberRows {
+    numbers: IndexMap<i64, i64>,
+    // how many rows hold 0
+    dead: usize,
+    ghost fit: { FitAll numbers.entries },
+    ghost counted: { dead ≡ dead_in numbers.entries },
+}
+
+impl NumberRows {
+    ghost use Rattle.std.specs.FinMap as map;
+    ghost use Rattle.number_rows.specs.Rows.{number_in};
+    ghost use Rattle.number_rows.specs.NumberRows.{rows_of, dead_rows, row_count};
+
+    /// No rows: each number is 0.
+    pub fn new(alloc: Global) -> NumberRows
+        ensures { rows_of result ≡ map.empty }
+    {
+        NumberRows {
+            numbers: IndexMap::new(alloc),
+            dead: 0,
+        }
+    }
+
+    /// The number of a key.
+    pub fn value(&self, key: i64) -> i64
+        ensures { result ≡ number_in (rows_of self.now) key }
+    {
+        match self.numbers.get(&key) {
+            Some(number) => *number,
+            None => 0,
+        }
+    }
+
+    /// Whether the key has a row, so that its number is written without memory.
+    pub fn has_row(&self, key: i64) -> bool
+        ensures { result ≡ map.contains_key (rows_of self.now) key }
+    {
+        self.numbers.contains_key(&key)
+    }
+
+    /// Writes a number, and makes a row for it if need be.
+    pub fn write(&mut self, key: i64, number: i64) -> Result<(), NoMemory>
+        ensures ok { OnOk result (rows_of self.new ≡ map.insert (rows_of self.old) key number) }
+        ensures err { OnErr result (rows_of self.new ≡ rows_of self.old) }
+        ensures succeeds { IsTrue (map.contains_key (rows_of self.old) key) → IsOk result }
+    {
+        // So the count of dead rows has room for one more.
+        let rows = self.numbers.len();
+        prove!(self.dead <= rows);
+        let was = self.numbers.insert(key, number)?;
+        self.dead = self.dead + dead_for(Some(number)) - dead_for(was);
+        Ok(())
+    }
+
+    /// Writes a number in the row that its key has.
+    pub fn rewrite(&mut self, key: i64, number: i64)
+        requires { IsTrue (map.contains_key (rows_of self.old) key) }
+        ensures { rows_of self.new ≡ map.insert (rows_of self.old) key number }
+    {
+        self.write(key, number).unwrap();
+    }
+
+    /// Drops the dead rows where they are more than half of all rows, and else does nothing, at no cost that
+    /// grows with the rows.
+    pub fn tidy(&mut self)
+        ensures numbers { (key : ℤ) → number_in (rows_of self.new) key ≡ number_in (rows_of self.old) key }
+        ensures lean { 2 * dead_rows self.new ≤ row_count self.new }
+        ensures idle { 2 * dead_rows self.old ≤ row_count self.old → rows_of self.new ≡ rows_of self.old }
+    {
+        if self.dead <= self.numbers.len() / 2 {
+            return;
+        }
+        self.numbers.retain(
+            |_key: &i64, number: &mut i64| -> bool
+                ensures { (result ≡ not (is_zero number.old)) × (number.new ≡ number.old) }
+            { *number != 0 },
+        );
+        self.numbers.shrink_to_fit();
+        self.dead = 0;
+    }
+}
+
+// What a row adds to the count of dead ones: 1 where it holds 0.
+fn dead_for(number: Option<i64>) -> usize
+    ensures { result ≡ one_if (found_zero number) }
+{
+    match number {
+        Some(0) => 1,
+        _ => 0,
+    }
+}

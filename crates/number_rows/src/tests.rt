@@ -1,0 +1,49 @@
+//! What no clause says: that calls succeed, what `tidy` drops, and values worked by hand.
+
+use crate::NumberRows;
+use std::test::Fail;
+
+#[test]
+fn numbers_are_kept_by_key(rt: HostRuntime) -> Result<(), Fail> {
+    let mut rows = NumberRows::new(rt.alloc());
+    assert_eq!(rt; rows.value(7), 0);
+    assert!(rt; !rows.has_row(7));
+    rows.write(7, -3)?;
+    rows.write(i64::MIN, i64::MAX)?;
+    rows.write(7, 4)?;
+    assert_eq!(rt;
+        (rows.value(7), rows.value(i64::MIN), rows.value(0)),
+        (4, i64::MAX, 0)
+    );
+    let there = rows.has_row(i64::MIN);
+    assert!(rt; there);
+    rows.rewrite(i64::MIN, 9);
+    assert_eq!(rt; rows.value(i64::MIN), 9);
+    Ok(())
+}
+
+#[test]
+fn dead_rows_are_dropped_once_they_are_more_than_half(rt: HostRuntime) -> Result<(), Fail> {
+    let mut rows = NumberRows::new(rt.alloc());
+    for key in 0..5 {
+        rows.write(key, 10 + key)?;
+    }
+    rows.write(1, 0)?;
+    rows.write(3, 0)?;
+    rows.tidy();
+    assert!(rt; rows.has_row(1) && rows.has_row(3));
+    // A row that dies, lives again and dies once more counts once.
+    rows.write(3, 8)?;
+    rows.write(3, 0)?;
+    rows.tidy();
+    assert!(rt; rows.has_row(1) && rows.has_row(3));
+    rows.write(4, 0)?;
+    rows.tidy();
+    assert!(rt; !rows.has_row(1) && !rows.has_row(3) && !rows.has_row(4));
+    assert_eq!(rt; (rows.value(0), rows.value(1), rows.value(2)), (10, 0, 12));
+    // The two rows that are left are alive.
+    rows.write(0, 0)?;
+    rows.tidy();
+    assert!(rt; rows.has_row(0));
+    Ok(())
+}
