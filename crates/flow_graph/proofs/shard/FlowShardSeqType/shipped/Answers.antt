@@ -1,0 +1,19 @@
+use Rattle.std.proofs.Common.{◌≡◌, ◌∙◌, ap, sym, refl, false}
+use Rattle.gx_base.specs.declared.kinds.Kind.{Kind}
+use Rattle.gx_base.specs.declared.kinds.Kind.TheVariants.{Set, Cells, Flow, Points, Domains}
+use Rattle.gx_base.specs.ShippedTables.{rows_shipped}
+use Rattle.gx_base.specs.TableRows.{row_of}
+use Rattle.gx_base.specs.TableRowLaws.{row_of-empty}
+use Rattle.flow_graph.specs.FlowState.{holds_flow}
+use Rattle.flow_graph.proofs.shard.FlowShardSeqType.shipped.Goals as goal
+
+not_held : (kind : Kind) → (kind ≡ Flow → ⊥) → holds_flow kind ≡ false
+not_held Set n = refl
+not_held Cells n = refl
+not_held Flow n = absurd (n refl)
+not_held Points n = refl
+not_held Domains n = refl
+
+pub returns-in_default : goal.returns-in_default
+returns-in_default c = λ m n.
+    ap (λ t. row_of t m n) c.blank.ensures ∙ row_of-empty m n ∙ sym (ap (λ b. rows_shipped b c.args.kind c.args.choice m n) (not_held c.args.kind c.in_default.not-Flow))

@@ -1,0 +1,7 @@
+use Rattle.std.proofs.Common.{ap}
+use Rattle.flow_graph.specs.FlowRows.{flow_rows-same}
+use Rattle.flow_graph.proofs.Writes.{with_rows}
+use Rattle.flow_graph.proofs.shard.FlowShardSeqType.tidy.Goals as goal
+
+pub returns : goal.returns
+returns c = ap with_rows (flow_rows-same _ _ _ _ _ _ c.tidy.ensures.numbers c.tidy-2.ensures.numbers c.tidy-3.ensures.numbers)

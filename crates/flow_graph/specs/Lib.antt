@@ -1,0 +1,4 @@
+pub mod Uses
+pub mod FlowRows
+pub mod FlowState
+pub mod Filling

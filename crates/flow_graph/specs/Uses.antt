@@ -1,0 +1,21 @@
+-- What the methods of a flow shard use, as the meanings of calls name it.
+use Rattle.std.specs.Prelude.{ℕ, Option, Some, None}
+use Rattle.gx_base.specs.Deeds as meaning
+use Rattle.flow_graph.specs.declared.uses.Quantity.{Quantity}
+use Rattle.flow_graph.specs.declared.uses.Quantity.TheVariants.{Height, Excess, Flow}
+use Rattle.flow_graph.specs.declared.uses.Deed.{Deed}
+use Rattle.flow_graph.specs.declared.uses.Deed.TheVariants.{Reads, Adds, Sets}
+
+abbrev pub sort_of : Quantity → ℕ
+sort_of Height = 0
+sort_of Excess = 1
+sort_of Flow = 2
+
+abbrev pub deed_of : Deed → meaning.Deed
+deed_of Reads = meaning.Reads
+deed_of Adds = meaning.Adds
+deed_of Sets = meaning.Sets
+
+abbrev pub use_from : Option (Quantity × Deed) → meaning.Use
+use_from None = meaning.Nothing
+use_from (Some p) = meaning.On (sort_of p.0) (deed_of p.1)

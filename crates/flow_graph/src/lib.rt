@@ -1,0 +1,14 @@
+//! The shared part of a flow network: the heights and the excesses of its nodes and the flows of its
+//! arcs, as an object whose calls can be taken back. Start at `FlowShard`; `laws` says that the tables
+//! of conditions that it ships are valid.
+#![tactic(auto)]
+
+pub mod laws;
+mod shard;
+mod shipping;
+mod uses;
+
+pub use shard::FlowShard;
+
+#[cfg(test)]
+mod tests;

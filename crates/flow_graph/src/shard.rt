@@ -1,0 +1,194 @@
+ghost use Rattle.std.specs.Prelude.{◌≡◌, IsTrue, OnOk, OnErr};
+ghost use Rattle.std.specs.FinMap as map;
+ghost use Rattle.gx_base.specs.declared.calls.Made.{Made};
+ghost use Rattle.gx_base.specs.States.{number_at, with_number};
+ghost use Rattle.gx_base.specs.Meanings.{number_reply as reply_of};
+ghost use Rattle.flow_graph.specs.Uses.{sort_of};
+ghost use Rattle.flow_graph.specs.FlowState.{state_of, has_row_in, has_room_in};
+
+use crate::shipping::flow_table;
+use crate::uses::{Deed, Quantity, use_of};
+use gx_base::{Call, Choice, Kind, NoMemory, Reply, SeqType, Table};
+use number_rows::NumberRows;
+use std::alloc::Global;
+
+/// The heights and the excesses of nodes and the flows of arcs, which are all 0 until they are written.
+#[derive(Drop)]
+pub struct FlowShard {
+    heights: NumberRows,
+    excesses: NumberRows,
+    flows: NumberRows,
+}
+
+impl FlowShard {
+    /// A shard in which each number is 0.
+    pub fn new(alloc: Global) -> FlowShard
+        ensures { state_of result ≡ record { kind = 2; rows = map.empty } }
+    {
+        FlowShard {
+            heights: NumberRows::new(alloc),
+            excesses: NumberRows::new(alloc),
+            flows: NumberRows::new(alloc),
+        }
+    }
+
+    /// The height of a node.
+    pub fn height(&self, node: i64) -> i64
+        ensures { result ≡ number_at (state_of self.now) (0, node) }
+    {
+        self.value(Quantity::Height, node)
+    }
+
+    /// The excess of a node.
+    pub fn excess(&self, node: i64) -> i64
+        ensures { result ≡ number_at (state_of self.now) (1, node) }
+    {
+        self.value(Quantity::Excess, node)
+    }
+
+    /// The flow of an arc.
+    pub fn flow(&self, arc: i64) -> i64
+        ensures { result ≡ number_at (state_of self.now) (2, arc) }
+    {
+        self.value(Quantity::Flow, arc)
+    }
+
+    fn value(&self, quantity: Quantity, key: i64) -> i64
+        ensures { result ≡ number_at (state_of self.now) (sort_of quantity, key) }
+    {
+        match quantity {
+            Quantity::Height => self.heights.value(key),
+            Quantity::Excess => self.excesses.value(key),
+            Quantity::Flow => self.flows.value(key),
+        }
+    }
+
+    fn has_row(&self, quantity: Quantity, key: i64) -> bool
+        ensures { result ≡ has_row_in self.now (sort_of quantity) key }
+    {
+        match quantity {
+            Quantity::Height => self.heights.has_row(key),
+            Quantity::Excess => self.excesses.has_row(key),
+            Quantity::Flow => self.flows.has_row(key),
+        }
+    }
+
+    fn write(&mut self, quantity: Quantity, key: i64, number: i64) -> Result<(), NoMemory>
+        ensures ok { OnOk result (state_of self.new ≡ with_number (state_of self.old) (sort_of quantity, key) number) }
+        ensures err { OnErr result (state_of self.new ≡ state_of self.old) }
+        ensures room { OnOk result (IsTrue (has_row_in self.new (sort_of quantity) key)) }
+        ensures kept { (made : Made) → IsTrue (has_room_in self.old made) → IsTrue (has_room_in self.new made) }
+    {
+        match quantity {
+            Quantity::Height => self.heights.write(key, number),
+            Quantity::Excess => self.excesses.write(key, number),
+            Quantity::Flow => self.flows.write(key, number),
+        }
+    }
+
+    fn rewrite(&mut self, quantity: Quantity, key: i64, number: i64)
+        requires { IsTrue (has_row_in self.old (sort_of quantity) key) }
+        ensures state { state_of self.new ≡ with_number (state_of self.old) (sort_of quantity, key) number }
+        ensures kept { (made : Made) → IsTrue (has_room_in self.old made) → IsTrue (has_room_in self.new made) }
+    {
+        match quantity {
+            Quantity::Height => self.heights.rewrite(key, number),
+            Quantity::Excess => self.excesses.rewrite(key, number),
+            Quantity::Flow => self.flows.rewrite(key, number),
+        }
+    }
+}
+
+fn number_reply(number: i64) -> Reply
+    ensures { result ≡ reply_of number }
+{
+    Reply {
+        p: number,
+        q: 0,
+        r: 0,
+        s: 0,
+    }
+}
+
+#[tactic(auto, unfolding(gx_base::specs::Steps::next_state, gx_base::specs::Steps::reply_to, gx_base::specs::Steps::inverse, gx_base::specs::Steps::observed))]
+impl SeqType for FlowShard {
+    ghost use Rattle.flow_graph.specs.FlowState.{holds_flow, state_of-IsState};
+
+    ghost state = { state_of };
+
+    ghost has_room = { has_room_in };
+
+    ghost holds_kind = { holds_flow };
+
+    ghost known = { state_of-IsState };
+
+    fn apply(&mut self, call: Call) -> Result<Reply, NoMemory> {
+        match use_of(call.method) {
+            None => Ok(number_reply(0)),
+            Some((quantity, deed)) => {
+                let number = self.value(quantity, call.a);
+                match deed {
+                    Deed::Reads => Ok(number_reply(number)),
+                    Deed::Adds => {
+                        self.write(quantity, call.a, number.wrapping_add(call.b))?;
+                        Ok(number_reply(0))
+                    }
+                    Deed::Sets => {
+                        self.write(quantity, call.a, call.b)?;
+                        Ok(number_reply(number))
+                    }
+                }
+            }
+        }
+    }
+
+    fn roomed(&self, call: Call, _reply: Reply) -> bool {
+        match use_of(call.method) {
+            None => true,
+            Some((quantity, deed)) => match deed {
+                Deed::Reads => true,
+                Deed::Adds | Deed::Sets => self.has_row(quantity, call.a),
+            },
+        }
+    }
+
+    fn undo(&mut self, call: Call, reply: Reply) {
+        match use_of(call.method) {
+            None | Some((_, Deed::Reads)) => {}
+            Some((quantity, Deed::Adds)) => {
+                let number = self.value(quantity, call.a);
+                self.rewrite(quantity, call.a, number.wrapping_sub(call.b));
+            }
+            Some((quantity, Deed::Sets)) => self.rewrite(quantity, call.a, reply.p),
+        }
+    }
+
+    fn redo(&mut self, call: Call, _reply: Reply) {
+        match use_of(call.method) {
+            None | Some((_, Deed::Reads)) => {}
+            Some((quantity, Deed::Adds)) => {
+                let number = self.value(quantity, call.a);
+                self.rewrite(quantity, call.a, number.wrapping_add(call.b));
+            }
+            Some((quantity, Deed::Sets)) => self.rewrite(quantity, call.a, call.b),
+        }
+    }
+
+    fn observe(&self, _x: i64) -> i64 {
+        0
+    }
+
+    fn tidy(&mut self) -> Result<(), NoMemory> {
+        self.heights.tidy();
+        self.excesses.tidy();
+        self.flows.tidy();
+        Ok(())
+    }
+
+    fn shipped(alloc: Global, kind: Kind, choice: Choice) -> Result<Table, NoMemory> {
+        match kind {
+            Kind::Flow => flow_table(alloc, choice),
+            _ => Ok(Table::blank(alloc)),
+        }
+    }
+}

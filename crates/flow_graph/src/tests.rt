@@ -1,0 +1,190 @@
+//! What no clause says: that calls succeed, and values worked by hand. The functions that take any
+//! object are proved from the clauses of `SeqType` alone.
+ghost use Rattle.std.specs.Prelude.{◌≡◌, IfOk, OnOk};
+ghost use Rattle.gx_base.specs.Steps.{next_state, reply_to};
+
+use crate::FlowShard;
+use gx_base::{Call, Choice, Kind, Made, NoMemory, Reply, Seen, SeqType, Table, eval};
+use std::test::Fail;
+
+const HEIGHT: u32 = 16;
+
+const RELABEL: u32 = 17;
+
+const EXCESS: u32 = 18;
+
+const GAIN: u32 = 19;
+
+const FLOW: u32 = 20;
+
+const SEND: u32 = 21;
+
+fn call(method: u32, a: i64, b: i64) -> Call {
+    Call {
+        method,
+        a,
+        b,
+        c: 0,
+        d: 0,
+    }
+}
+
+fn reply(p: i64) -> Reply {
+    Reply {
+        p,
+        q: 0,
+        r: 0,
+        s: 0,
+    }
+}
+
+/// Does a call, takes it back and does it again.
+fn done_again<T: SeqType>(object: &mut T, call: Call) -> Result<Reply, NoMemory>
+    ensures reply { IfOk result (λ reply. reply ≡ reply_to (T.state object.old) call) }
+    ensures state { OnOk result (T.state object.new ≡ next_state (T.state object.old) call) }
+{
+    let reply = object.apply(call)?;
+    object.undo(call, reply);
+    object.redo(call, reply);
+    Ok(reply)
+}
+
+/// Takes back a call, where it has room.
+fn taken_back<T: SeqType>(object: &mut T, call: Call, reply: Reply) -> bool {
+    let roomed = object.roomed(call, reply);
+    if roomed {
+        object.undo(call, reply);
+    }
+    roomed
+}
+
+fn needs<T: Send + Drop>(_value: &T) {}
+
+#[test]
+fn a_gain_is_taken_back_alone(rt: HostRuntime) -> Result<(), Fail> {
+    let mut shard = FlowShard::new(rt.alloc());
+    needs(&shard);
+    assert_eq!(rt; done_again(&mut shard, call(GAIN, 3, 5))?, reply(0));
+    assert_eq!(rt; done_again(&mut shard, call(GAIN, 3, 7))?, reply(0));
+    assert_eq!(rt; shard.excess(3), 12);
+    assert_eq!(rt; done_again(&mut shard, call(EXCESS, 3, 0))?, reply(12));
+    assert!(rt; taken_back(&mut shard, call(GAIN, 3, 5), reply(0)));
+    assert_eq!(rt;
+        (shard.excess(3), shard.height(3), shard.flow(3)),
+        (7, 0, 0)
+    );
+    Ok(())
+}
+
+#[test]
+fn a_relabel_is_taken_back_to_the_old_height(rt: HostRuntime) -> Result<(), Fail> {
+    let mut shard = FlowShard::new(rt.alloc());
+    assert_eq!(rt; done_again(&mut shard, call(RELABEL, 4, 2))?, reply(0));
+    assert_eq!(rt; done_again(&mut shard, call(RELABEL, 4, 6))?, reply(2));
+    assert_eq!(rt; done_again(&mut shard, call(HEIGHT, 4, 0))?, reply(6));
+    assert!(rt; taken_back(&mut shard, call(RELABEL, 4, 6), reply(2)));
+    assert_eq!(rt; shard.height(4), 2);
+    assert_eq!(rt; done_again(&mut shard, call(SEND, 4, i64::MAX))?, reply(0));
+    assert_eq!(rt; done_again(&mut shard, call(SEND, 4, 1))?, reply(0));
+    assert_eq!(rt; done_again(&mut shard, call(FLOW, 4, 0))?, reply(i64::MIN));
+    assert_eq!(rt;
+        (shard.height(4), shard.excess(4), shard.observe(4)),
+        (2, 0, 0)
+    );
+    // A call of another kind of object does nothing.
+    assert_eq!(rt; done_again(&mut shard, call(9, 4, 5))?, reply(0));
+    Ok(())
+}
+
+#[test]
+fn tidy_keeps_the_numbers_and_drops_dead_rows(rt: HostRuntime) -> Result<(), Fail> {
+    let mut shard = FlowShard::new(rt.alloc());
+    for node in 0..6 {
+        shard.apply(call(GAIN, node, 5))?;
+    }
+    for node in 1..6 {
+        assert!(rt; taken_back(&mut shard, call(GAIN, node, 5), reply(0)));
+    }
+    shard.tidy()?;
+    assert_eq!(rt; (shard.excess(0), shard.excess(1)), (5, 0));
+    assert!(rt; shard.roomed(call(GAIN, 0, 5), reply(0)));
+    assert!(rt; !shard.roomed(call(GAIN, 1, 5), reply(0)));
+    assert!(rt; shard.roomed(call(EXCESS, 1, 0), reply(0)));
+    Ok(())
+}
+
+/// Two calls as (method, a, b, p), and whether their row holds in the precise, the simple, the rw and the
+/// global table.
+const ROWS: [((u32, i64, i64, i64), (u32, i64, i64, i64), [bool; 4]); 11] = [
+    ((GAIN, 3, 5, 0), (GAIN, 3, 7, 0), [true, true, false, false]),
+    ((EXCESS, 3, 0, 12), (GAIN, 3, 7, 0), [false; 4]),
+    (
+        (EXCESS, 3, 0, 12),
+        (GAIN, 3, 0, 0),
+        [true, false, false, false],
+    ),
+    (
+        (SEND, 3, 0, 0),
+        (FLOW, 3, 0, 12),
+        [true, false, false, false],
+    ),
+    ((SEND, 3, 1, 0), (FLOW, 4, 0, 12), [true, true, true, false]),
+    (
+        (HEIGHT, 3, 0, 2),
+        (RELABEL, 3, 2, 2),
+        [true, false, false, false],
+    ),
+    (
+        (RELABEL, 3, 2, 2),
+        (HEIGHT, 3, 0, 2),
+        [true, false, false, false],
+    ),
+    ((RELABEL, 3, 2, 1), (RELABEL, 3, 2, 2), [false; 4]),
+    (
+        (RELABEL, 3, 2, 2),
+        (RELABEL, 3, 2, 2),
+        [true, false, false, false],
+    ),
+    (
+        (RELABEL, 3, 2, 1),
+        (GAIN, 3, 5, 0),
+        [true, true, true, false],
+    ),
+    ((GAIN, 3, 5, 0), (9, 4, 5, 0), [false; 4]),
+];
+
+const UNSEEN: Seen = Seen {
+    first: 0,
+    second: 0,
+};
+
+fn made(values: (u32, i64, i64, i64)) -> Made {
+    Made {
+        call: call(values.0, values.1, values.2),
+        reply: reply(values.3),
+    }
+}
+
+fn holds(table: &Table, first: &Made, second: &Made) -> bool {
+    let row = table.row(first.call.method, second.call.method);
+    eval(row, first, second, UNSEEN)
+}
+
+#[test]
+fn shipped_rows_hold_where_they_should(rt: HostRuntime) -> Result<(), Fail> {
+    let alloc = rt.alloc();
+    let precise = FlowShard::shipped(alloc, Kind::Flow, Choice::Precise)?;
+    let simple = FlowShard::shipped(alloc, Kind::Flow, Choice::Simple)?;
+    let rw = FlowShard::shipped(alloc, Kind::Flow, Choice::Rw)?;
+    let global = FlowShard::shipped(alloc, Kind::Flow, Choice::Global)?;
+    let cells = FlowShard::shipped(alloc, Kind::Cells, Choice::Precise)?;
+    for (first, second, want) in ROWS {
+        let first = made(first);
+        let second = made(second);
+        for (table, want) in [&precise, &simple, &rw, &global].into_iter().zip(want) {
+            assert_eq!(rt; holds(table, &first, &second), want);
+        }
+        assert!(rt; !holds(&cells, &first, &second));
+    }
+    Ok(())
+}

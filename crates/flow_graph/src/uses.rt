@@ -1,0 +1,65 @@
+//! What each method of a flow shard does, and with which of its numbers.
+ghost use Rattle.std.specs.Prelude.{◌≡◌};
+ghost use Rattle.gx_base.specs.Deeds.{flow_use};
+ghost use Rattle.flow_graph.specs.Uses.{sort_of, use_from};
+
+/// The first method of flow shards, and what follows the last.
+pub(crate) const FIRST_METHOD: u32 = HEIGHT;
+
+pub(crate) const METHODS_END: u32 = SEND + 1;
+
+const HEIGHT: u32 = 16;
+
+const RELABEL: u32 = 17;
+
+const EXCESS: u32 = 18;
+
+const GAIN: u32 = 19;
+
+const FLOW: u32 = 20;
+
+const SEND: u32 = 21;
+
+/// The numbers of a flow shard.
+#[derive(Clone, Copy, Drop)]
+pub(crate) enum Quantity {
+    Height,
+    Excess,
+    Flow,
+}
+
+impl Quantity {
+    /// The sort of its rows in a state.
+    pub(crate) fn sort(self) -> u32
+        ensures { result ≡ sort_of self }
+    {
+        match self {
+            Quantity::Height => 0,
+            Quantity::Excess => 1,
+            Quantity::Flow => 2,
+        }
+    }
+}
+
+/// What a method does with a number.
+#[derive(Clone, Copy, Drop)]
+pub(crate) enum Deed {
+    Reads,
+    Adds,
+    Sets,
+}
+
+/// The number that a method uses, and how. `None` for a method of another kind of object.
+pub(crate) fn use_of(method: u32) -> Option<(Quantity, Deed)>
+    ensures { use_from result ≡ flow_use method }
+{
+    match method {
+        HEIGHT => Some((Quantity::Height, Deed::Reads)),
+        RELABEL => Some((Quantity::Height, Deed::Sets)),
+        EXCESS => Some((Quantity::Excess, Deed::Reads)),
+        GAIN => Some((Quantity::Excess, Deed::Adds)),
+        FLOW => Some((Quantity::Flow, Deed::Reads)),
+        SEND => Some((Quantity::Flow, Deed::Adds)),
+        _ => None,
+    }
+}
