@@ -1,0 +1,14 @@
+pub mod EntryLists
+pub mod StateTerms
+pub mod Swapping
+pub mod Leaving
+pub mod KeptLawful
+pub mod Walking
+pub mod Failing
+pub mod Asking
+pub mod Withdrawing
+pub mod GateLaws
+pub mod ShippedRows
+pub mod ScanLemmas
+pub mod PlainTables
+pub mod EmptySets

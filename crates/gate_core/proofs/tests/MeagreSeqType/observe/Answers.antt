@@ -1,0 +1,5 @@
+use Rattle.gate_core.proofs.EmptySets.{unseen}
+use Rattle.gate_core.proofs.tests.MeagreSeqType.observe.Goals as goal
+
+pub returns : goal.returns
+returns c = unseen c.args._x
