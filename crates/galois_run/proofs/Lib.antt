@@ -1,0 +1,13 @@
+pub mod FlowFileLaws
+pub mod DischargeMoves
+pub mod ReadySets
+pub mod Rooms
+pub mod BodySteps
+pub mod SerialSteps
+pub mod LeastFirst
+pub mod FlowLineSteps
+pub mod FlowRooms
+pub mod RunCauses
+pub mod FlowWrites
+pub mod FlowPours
+pub mod ReadyNodes

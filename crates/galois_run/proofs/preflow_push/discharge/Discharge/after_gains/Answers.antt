@@ -1,0 +1,10 @@
+use Rattle.std.proofs.Common.{◌≡◌, ℤ, refl, sym, ap, ◌∙◌, arith, rules, FitsSigned, to_z, of_z}
+use Rattle.std.proofs.lemmas.Int.{to_z-of_z}
+use Rattle.std.specs.Int.{w64}
+use Rattle.galois_run.proofs.DischargeMoves.{at_terminal}
+use Rattle.galois_run.proofs.preflow_push.discharge.Discharge.after_gains.Goals as goal
+
+pub returns-then-is_terminal : goal.returns-then-is_terminal
+returns-then-is_terminal c =
+    let other : to_z w64 (of_z w64 c.args.arc.other) ≡ c.args.arc.other = to_z-of_z w64 c.args.arc.other (search rules) in
+    at_terminal c.args.self.now c.args.walk c.args.arc c.args.amount _ _ (cc) c.unless_spent.ensures

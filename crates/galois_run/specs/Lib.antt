@@ -1,0 +1,17 @@
+pub mod FlowFiles
+pub mod FlowLines
+pub mod FlowParts
+pub mod Networks
+pub mod FlowCalls
+pub mod Touching
+pub mod TouchLists
+pub mod Discharge
+pub mod Places
+pub mod Discharges
+pub mod FlowStates
+pub mod FlowReports
+pub mod Starts
+pub mod SerialRuns
+pub mod Statuses
+pub mod Words
+pub mod RunTurns

@@ -1,0 +1,64 @@
+-- What a body that stands at a place has still to do.
+use Rattle.std.specs.Prelude.{ℕ, ◌+◌, ◌*◌, ◌-◌, ℤ, pos, Option, Some, None, List, [], ◌∷◌, length, drop, slice_index_or, slice_get}
+use Rattle.std.specs.Int.{w64, int_wrapping_sub}
+use Rattle.std.specs.Ordering.{int_eq}
+use Rattle.gx_base.specs.declared.calls.Reply.{Reply}
+use Rattle.gx_base.specs.declared.items.Item.{Item}
+use Rattle.gx_base.specs.Plans.{Plan, Call, Push, Done, Operator}
+use Rattle.galois_run.specs.declared.preflow_push.touches.Touch.{Touch}
+use Rattle.galois_run.specs.declared.preflow_push.places.Place.{Place}
+use Rattle.galois_run.specs.declared.preflow_push.places.Walk.{Walk}
+use Rattle.galois_run.specs.declared.preflow_push.places.Place.TheVariants as places
+use Rattle.galois_run.specs.FlowCalls.{room_of, gain, minus}
+use Rattle.galois_run.specs.Discharge.{Terminals, Onward, node_item, node_plan, with_excess, along, with_flow, with_height, after_gains, unless_spent, is_terminal}
+
+-- a reply that was due and didn't come counts as four zeros
+abbrev pub value_of_reply : Option Reply → ℤ
+value_of_reply None = pos 0
+value_of_reply (Some reply) = reply.p
+
+-- at most six acts for each arc, and two after the last
+abbrev pub acts_over : ℕ → ℕ
+acts_over arcs = 6 * arcs + 2
+
+module _ (lists : ℕ → List Touch) where
+  -- the arcs that a walk has not gone over
+  abbrev pub arcs_left : Walk → List Touch
+  arcs_left walk = drop walk.at (lists walk.list)
+
+  -- a bound on the acts that are left
+  abbrev pub acts_left : Place → ℕ
+  acts_left (places.Begin node list) = acts_over (length (lists list)) + 2
+  acts_left (places.AfterExcess node list) = acts_over (length (lists list)) + 1
+  acts_left (places.AfterHeight node list e) = acts_over (length (lists list))
+  acts_left (places.AfterFlow walk arc) = acts_over (length (arcs_left walk)) + 5
+  acts_left (places.AfterOther walk arc r) = acts_over (length (arcs_left walk)) + 4
+  acts_left (places.AfterSend walk arc x) = acts_over (length (arcs_left walk)) + 3
+  acts_left (places.AfterLoss walk arc x) = acts_over (length (arcs_left walk)) + 2
+  acts_left (places.AfterGain walk arc x) = acts_over (length (arcs_left walk)) + 1
+  acts_left (places.AfterPush walk) = acts_over (length (arcs_left walk))
+  acts_left (places.AfterRelabel node) = 1
+  acts_left places.End = 0
+
+module _ (ends : Terminals) (lists : ℕ → List Touch) where
+  abbrev pub onward : Walk → Onward
+  onward walk = along ends walk.node walk.height (arcs_left lists walk)
+
+  -- given the value that the last call replied
+  abbrev pub rest_at : Place → ℤ → Plan
+  rest_at (places.Begin node list) value = node_plan ends node (lists list)
+  rest_at (places.AfterExcess node list) value = with_excess ends node (lists list) value
+  rest_at (places.AfterHeight node list e) value = along ends node value (lists list) e None
+  rest_at (places.AfterFlow walk arc) value = with_flow ends walk.node walk.height arc value walk.excess walk.least (onward walk)
+  rest_at (places.AfterOther walk arc r) value = with_height ends walk.node walk.height arc r value walk.excess walk.least (onward walk)
+  rest_at (places.AfterSend walk arc x) value =
+      Call (room_of walk.node) (gain walk.node (minus x)) (λ _.
+      Call (room_of arc.other) (gain arc.other x) (λ _.
+      after_gains ends walk.node walk.height arc x walk.excess walk.least (onward walk)))
+  rest_at (places.AfterLoss walk arc x) value =
+      Call (room_of arc.other) (gain arc.other x) (λ _.
+      after_gains ends walk.node walk.height arc x walk.excess walk.least (onward walk))
+  rest_at (places.AfterGain walk arc x) value = after_gains ends walk.node walk.height arc x walk.excess walk.least (onward walk)
+  rest_at (places.AfterPush walk) value = unless_spent walk.excess walk.least (onward walk)
+  rest_at (places.AfterRelabel node) value = Push (node_item node) Done
+  rest_at places.End value = Done

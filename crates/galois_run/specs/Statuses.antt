@@ -1,0 +1,58 @@
+-- Statuses: their numbers, and the lines that tell them.
+use Rattle.std.specs.Prelude.{ℕ, List, [], ◌++◌, codes}
+use Rattle.std.specs.Fmt.{decimal}
+use Rattle.gx_base.specs.declared.inputs.What.{What}
+use Rattle.gx_base.specs.declared.inputs.What.TheVariants.{File, Nodes, Arcs, Points, Nets, Horizon, Size}
+use Rattle.galois_run.specs.declared.status.Status.{Status}
+use Rattle.galois_run.specs.declared.status.Status.TheVariants.{Ok, Usage, BadInput, ReadFault, WriteFault, NoMemory, TooLarge, Spent, Kept, BadTable}
+use Rattle.galois_run.specs.declared.status.TableFault.{TableFault}
+use Rattle.galois_run.specs.declared.status.TableFault.TheVariants.{Line, Pair}
+use Rattle.gx_base.specs.Methods.{word_of}
+
+abbrev pub number_of : Status → ℕ
+number_of Ok = 0
+number_of Usage = 1
+number_of (BadInput line) = 2
+number_of ReadFault = 3
+number_of WriteFault = 4
+number_of NoMemory = 5
+number_of (TooLarge what) = 6
+number_of Spent = 7
+number_of Kept = 8
+number_of (BadTable why) = 9
+
+abbrev pub what_text : What → List ℕ
+what_text File = codes "file"
+what_text Nodes = codes "nodes"
+what_text Arcs = codes "arcs"
+what_text Points = codes "points"
+what_text Nets = codes "nets"
+what_text Horizon = codes "horizon"
+what_text Size = codes "size"
+
+abbrev pub pair_text : List ℕ → List ℕ → List ℕ
+pair_text first second = codes "galois: conditions: " ++ first ++ codes " " ++ second
+
+abbrev pub fault_text : TableFault → List ℕ
+fault_text (Line line) = codes "galois: conditions: line " ++ decimal line
+fault_text (Pair first second) = pair_text (word_of first) (word_of second)
+
+-- the line on standard error
+abbrev pub text_of : Status → List ℕ
+text_of Ok = []
+text_of Usage = codes "galois: usage: galois COMMAND WORDS [--name value]..."
+text_of (BadInput line) = codes "galois: line " ++ decimal line ++ codes ": bad input"
+text_of ReadFault = codes "galois: reading failed"
+text_of WriteFault = codes "galois: writing failed"
+text_of NoMemory = codes "galois: no memory"
+text_of (TooLarge what) = codes "galois: too large: " ++ what_text what
+text_of Spent = codes "galois: spent"
+text_of Kept = codes "galois: kept"
+text_of (BadTable why) = fault_text why
+
+-- the status tells nothing but itself
+abbrev pub IsBare : Status → Type 0
+IsBare (BadInput line) = ⊥
+IsBare (TooLarge what) = ⊥
+IsBare (BadTable why) = ⊥
+IsBare status = Unit {0}

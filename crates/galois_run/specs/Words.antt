@@ -1,0 +1,40 @@
+-- The words of a command line.
+use Rattle.std.specs.Prelude.{◌≡◌, ℕ, Bool, not, ◌&&◌, ◌==◌, if◌then◌else◌, List, [], ◌∷◌, length, Option, Some, None, codes, bytes_eq, nat_eq, string_bytes}
+use Rattle.std.specs.List.{starts_with}
+use Rattle.galois_run.specs.declared.words.Command.{Command}
+use Rattle.galois_run.specs.declared.words.Command.TheVariants.{Flow}
+use Rattle.galois_run.specs.declared.words.Plan.{Plan}
+
+-- a command and the name of its file
+pub record Planned : Type 0 where
+  pub command : Command
+  pub file : List ℕ
+
+abbrev pub command_of : List ℕ → Option Command
+command_of word = if bytes_eq word (codes "flow") then Some Flow else None
+
+-- a word that isn't empty and doesn't begin with two dashes
+abbrev pub is_plain : List ℕ → Bool
+is_plain word = not (length word == 0) && not (starts_with nat_eq word (codes "--"))
+
+abbrev pub with_file : Option Command → List ℕ → Option Planned
+with_file None file = None
+with_file (Some command) file = if is_plain file then Some (record { command = command; file = file }) else None
+
+-- the grammar of the words: a command and one plain word
+abbrev pub plan_of : List (List ℕ) → Option Planned
+plan_of [] = None
+plan_of (word ∷ []) = None
+plan_of (word ∷ file ∷ []) = with_file (command_of word) file
+plan_of (word ∷ file ∷ more ∷ words) = None
+
+abbrev pub planned : Plan → Planned
+planned plan = record { command = plan.command; file = string_bytes plan.file }
+
+abbrev pub IsPlanned : Option Planned → Plan → Type 0
+IsPlanned wanted plan = wanted ≡ Some (planned plan)
+
+-- what the files hold under the plan's name, where there is a plan and they tell it
+abbrev pub held_by : Option Planned → (List ℕ → Option (List ℕ)) → Option (List ℕ)
+held_by None holds = None
+held_by (Some plan) holds = holds plan.file

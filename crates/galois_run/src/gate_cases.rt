@@ -1,0 +1,129 @@
+//! Gates over flow shards under the precise table, with values worked by hand.
+use flow_graph::FlowShard;
+use gate_core::laws::shipped_tables_serve_gates;
+use gate_core::{Entry, Gate, GateRefuse, ScanScreen, Screen, Told};
+use gx_base::{Call, Choice, Item, Kind, NoMemory, Reply, Seen, SeqType};
+use std::alloc::Global;
+use std::test::Fail;
+
+const HEIGHT: u32 = 16;
+
+const RELABEL: u32 = 17;
+
+const EXCESS: u32 = 18;
+
+const GAIN: u32 = 19;
+
+const ITEM: Item = Item {
+    k0: 0,
+    k1: 0,
+    k2: 0,
+    k3: 0,
+};
+
+fn call(method: u32, a: i64, b: i64) -> Call {
+    Call {
+        method,
+        a,
+        b,
+        c: 0,
+        d: 0,
+    }
+}
+
+fn reply(p: i64) -> Reply {
+    Reply {
+        p,
+        q: 0,
+        r: 0,
+        s: 0,
+    }
+}
+
+/// A gate on an empty shard. The plain scan can tell the conflicts of its table.
+fn precise_gate(alloc: Global) -> Result<Gate<FlowShard, ScanScreen>, NoMemory> {
+    let table = FlowShard::shipped(alloc, Kind::Flow, Choice::Precise)?;
+    shipped_tables_serve_gates();
+    let screen = ScanScreen::new();
+    if !<ScanScreen as Screen<FlowShard>>::fits(&screen, Kind::Flow, &table) {
+        return Err(NoMemory);
+    }
+    let object = FlowShard::new(alloc);
+    Ok(Gate::new(alloc, object, Kind::Flow, table, screen))
+}
+
+/// What is told of a call that replies `would` beside an entry of worker 0 that replied `replied`.
+fn told(held: Call, replied: i64, asked: Call, would: i64) -> Told {
+    Told {
+        held: Entry {
+            worker: 0,
+            iter: 0,
+            item: ITEM,
+            call: held,
+            reply: reply(replied),
+            seen: 0,
+            done: None,
+        },
+        asked,
+        would: reply(would),
+        seen: Seen {
+            first: 0,
+            second: 0,
+        },
+    }
+}
+
+fn release_as_first(gate: &mut Gate<FlowShard, ScanScreen>, worker: u32) -> bool {
+    let rises = gate.mark() == 0;
+    if rises {
+        gate.release(worker, 0, 0);
+    }
+    rises
+}
+
+#[test]
+fn gate_excess_gain(rt: HostRuntime) -> Result<(), Fail> {
+    let mut gate = precise_gate(rt.alloc())?;
+    assert_eq!(rt; gate.call(0, 0, ITEM, call(EXCESS, 4, 0)), Ok(reply(0)));
+    let refuse = GateRefuse::Conflict(told(call(EXCESS, 4, 0), 0, call(GAIN, 4, 1), 0));
+    assert_eq!(rt; gate.call(1, 0, ITEM, call(GAIN, 4, 1)), Err(refuse));
+    assert_eq!(rt; gate.call(1, 0, ITEM, call(GAIN, 4, 0)), Ok(reply(0)));
+    Ok(())
+}
+
+#[test]
+fn gate_gain_undo(rt: HostRuntime) -> Result<(), Fail> {
+    let mut gate = precise_gate(rt.alloc())?;
+    assert_eq!(rt; gate.call(0, 0, ITEM, call(GAIN, 3, 5)), Ok(reply(0)));
+    assert_eq!(rt; gate.call(1, 0, ITEM, call(GAIN, 3, 7)), Ok(reply(0)));
+    assert_eq!(rt; gate.object().excess(3), 12);
+    assert_eq!(rt; gate.undo_last(0, 0), Some((call(GAIN, 3, 5), reply(0))));
+    assert_eq!(rt; (gate.object().excess(3), gate.live().len()), (7, 1));
+    assert_eq!(rt; gate.undo_last(0, 0), None);
+    assert!(rt; release_as_first(&mut gate, 1));
+    assert_eq!(rt;
+        (gate.done().len(), gate.live().len(), gate.mark()),
+        (1, 0, 1)
+    );
+    assert!(rt;
+        gate.done()
+            .iter()
+            .all(|entry| entry.done == Some(0) && entry.worker == 1)
+    );
+    assert_eq!(rt; gate.object().excess(3), 7);
+    Ok(())
+}
+
+#[test]
+fn gate_relabel_undo(rt: HostRuntime) -> Result<(), Fail> {
+    let mut gate = precise_gate(rt.alloc())?;
+    assert_eq!(rt; gate.call(0, 0, ITEM, call(RELABEL, 4, 2)), Ok(reply(0)));
+    let refuse = GateRefuse::Conflict(told(call(RELABEL, 4, 2), 0, call(HEIGHT, 4, 0), 2));
+    assert_eq!(rt; gate.call(1, 0, ITEM, call(HEIGHT, 4, 0)), Err(refuse));
+    assert_eq!(rt; gate.call(0, 0, ITEM, call(HEIGHT, 4, 0)), Ok(reply(2)));
+    assert_eq!(rt; gate.undo_last(0, 0), Some((call(HEIGHT, 4, 0), reply(2))));
+    assert_eq!(rt; gate.undo_last(0, 0), Some((call(RELABEL, 4, 2), reply(0))));
+    assert_eq!(rt; gate.undo_last(0, 0), None);
+    assert_eq!(rt; gate.object().height(4), 0);
+    Ok(())
+}

@@ -1,0 +1,26 @@
+//! Maximum flow by preflow-push: the network and the file that it is read from, the work done for a node, where
+//! it starts, and the report.
+//!
+//! `specs/Networks.antt` has what a network is, `specs/FlowFiles.antt` which bytes are a flow file and of which
+//! network, and `specs/Discharge.antt` what is done for a node.
+
+mod calls;
+mod discharge;
+mod flow_lines;
+mod network;
+mod places;
+mod reading;
+mod reports;
+mod rooms;
+mod starts;
+#[cfg(test)]
+mod tests;
+mod touches;
+
+pub use discharge::Discharge;
+pub use network::{Arc, Network};
+pub use places::{Place, Walk};
+pub use reading::read_max;
+pub use reports::report;
+pub use starts::start;
+pub use touches::Touch;
