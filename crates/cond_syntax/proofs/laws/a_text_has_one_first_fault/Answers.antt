@@ -1,0 +1,5 @@
+use Rattle.cond_syntax.specs.TableLaws.{same_fault}
+use Rattle.cond_syntax.proofs.laws.a_text_has_one_first_fault.Goals as goal
+
+pub returns : goal.returns
+returns c = same_fault

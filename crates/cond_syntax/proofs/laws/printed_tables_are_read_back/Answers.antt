@@ -1,0 +1,5 @@
+use Rattle.cond_syntax.specs.PrintedTables.{printed_table}
+use Rattle.cond_syntax.proofs.laws.printed_tables_are_read_back.Goals as goal
+
+pub returns : goal.returns
+returns c = printed_table

@@ -1,0 +1,5 @@
+use Rattle.cond_syntax.specs.MachineLaws.{one_tree}
+use Rattle.cond_syntax.proofs.laws.tokens_spell_one_condition.Goals as goal
+
+pub returns : goal.returns
+returns c = one_tree

@@ -1,0 +1,73 @@
+//! Laws of the language of conditions, over its definitions alone. A caller of one of these functions,
+//! which do nothing, may use what it ensures.
+
+ghost use Rattle.std.specs.Prelude.{◌≡◌, ◌↔◌, ◌⊎◌, ℕ, Bool, true, false, List, [], Some, None, Contains};
+ghost use Rattle.gx_base.specs.declared.kinds.Kind.{Kind};
+ghost use Rattle.gx_base.specs.Conditions.{Condition};
+ghost use Rattle.gx_base.specs.TableRows.{RowMap};
+ghost use Rattle.gx_base.specs.Tables.{Rows};
+ghost use Rattle.cond_syntax.specs.Tokens.{Token, tokens_of};
+ghost use Rattle.cond_syntax.specs.Written.{Written, condition_in};
+ghost use Rattle.cond_syntax.specs.Grammar.{IsCondition};
+ghost use Rattle.cond_syntax.specs.Fronts.{is_cut, IsOfForm, all_known};
+ghost use Rattle.cond_syntax.specs.Machine.{Wrong, Cut, Whole, reading_of};
+ghost use Rattle.cond_syntax.specs.TableTexts.{Spells, IsTableText, Fault, IsFirstFault};
+ghost use Rattle.cond_syntax.specs.Printing.{condition_text, table_text};
+ghost use Rattle.cond_syntax.specs.Printable.{IsPrintable, IsPrintableTable, IsReadBack};
+
+/// Reading from token to token finds the condition that the grammar spells, and no other.
+pub fn conditions_are_read_as_spelled()
+    ensures { (ts : List Token) (c : Written) → is_cut ts ≡ false → (reading_of ts ≡ Whole c) ↔ IsCondition ts [] c }
+{}
+
+/// Tokens spell one condition at most.
+pub fn tokens_spell_one_condition()
+    ensures { (ts : List Token) (c d : Written) → IsCondition ts [] c → IsCondition ts [] d → c ≡ d }
+{}
+
+/// Reading finds nothing wrong exactly where the tokens have the form of a condition.
+pub fn forms_are_not_wrong()
+    ensures { (ts : List Token) → IsOfForm ts ↔ (reading_of ts ≡ Wrong → ⊥) }
+{}
+
+/// Reading comes to its end unless more parentheses are open than may be.
+pub fn only_deep_conditions_are_cut()
+    ensures cut { (ts : List Token) → reading_of ts ≡ Cut → is_cut ts ≡ true }
+    ensures whole { (ts : List Token) (c : Written) → reading_of ts ≡ Whole c → is_cut ts ≡ false }
+{}
+
+/// A spelled condition has a meaning for a kind exactly where each word of its tokens is known there.
+pub fn known_words_mean_a_condition()
+    ensures known { (kind : ℕ) (ts : List Token) (c : Written) → IsCondition ts [] c → all_known kind false ts ≡ true → (d : Condition) × (condition_in kind c ≡ Some d) }
+    ensures unknown { (kind : ℕ) (ts : List Token) (c : Written) → IsCondition ts [] c → all_known kind false ts ≡ false → condition_in kind c ≡ None }
+{}
+
+/// Bytes are the text of one table at most.
+pub fn a_text_is_of_one_table()
+    ensures { (wanted : List Kind) (bytes : List ℕ) (kind other : Kind) (rows others : RowMap) → IsTableText wanted bytes kind rows → IsTableText wanted bytes other others → (kind ≡ other) × (rows ≡ others) }
+{}
+
+/// The text of a table has no first fault.
+pub fn a_table_has_no_fault()
+    ensures { (wanted : List Kind) (bytes : List ℕ) (kind : Kind) (rows : RowMap) (line : ℕ) (fault : Fault) → IsTableText wanted bytes kind rows → IsFirstFault wanted bytes line fault → ⊥ }
+{}
+
+/// Bytes have one first fault at most.
+pub fn a_text_has_one_first_fault()
+    ensures { (wanted : List Kind) (bytes : List ℕ) (line number : ℕ) (fault other : Fault) → IsFirstFault wanted bytes line fault → IsFirstFault wanted bytes number other → (line ≡ number) × (fault ≡ other) }
+{}
+
+/// Bytes are the text of a table, or have a first fault.
+pub fn each_text_is_a_table_or_has_a_first_fault()
+    ensures { (wanted : List Kind) (bytes : List ℕ) → ((kind : Kind) × (rows : RowMap) × IsTableText wanted bytes kind rows) ⊎ ((line : ℕ) × (fault : Fault) × IsFirstFault wanted bytes line fault) }
+{}
+
+/// The tokens of a printed condition spell it.
+pub fn printed_conditions_are_read_back()
+    ensures { (kind : Kind) (c : Condition) → IsPrintable kind c → Spells kind (tokens_of (condition_text c)) c }
+{}
+
+/// A printed table is the text of a table with its rows, wherever its kind is wanted.
+pub fn printed_tables_are_read_back()
+    ensures { (kind : Kind) (rows : Rows) → IsPrintableTable kind rows → (wanted : List Kind) → Contains wanted kind → IsReadBack wanted (table_text kind rows) kind rows }
+{}
