@@ -1,0 +1,14 @@
+pub mod ConditionLaws
+pub mod DraftLaws
+pub mod LevelLaws
+pub mod LineSteps
+pub mod MethodNames
+pub mod MethodPlaces
+pub mod OneAnswer
+pub mod PairLaws
+pub mod PieceLaws
+pub mod PrintedRows
+pub mod ReaderLaws
+pub mod RowFaults
+pub mod SourceLaws
+pub mod TokenLaws

@@ -1,0 +1,13 @@
+pub mod Answered
+pub mod CodeTokens
+pub mod Comparisons
+pub mod Drafts
+pub mod Found
+pub mod Levels
+pub mod LineAnswers
+pub mod LineForms
+pub mod Pairs
+pub mod Readers
+pub mod Sources
+pub mod TextFaults
+pub mod TokenSteps

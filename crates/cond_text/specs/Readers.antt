@@ -1,0 +1,69 @@
+-- What has been read, as a state of the grammar's machine.
+use Rattle.std.specs.Prelude.{◌≡◌, ℕ, List, [], ◌∷◌, reverse, Option, Some, None, Result, Ok, Err}
+use Rattle.gx_base.specs.Kinds.{kind_number}
+use Rattle.cond_syntax.specs.Written.{Written, True, False}
+use Rattle.cond_syntax.specs.Machine as machine
+use Rattle.cond_syntax.specs.Machine.{Frame, State, Operand, Whole, First, unit_done}
+use Rattle.cond_text.specs.Comparisons.{term_begun}
+use Rattle.cond_syntax.specs.Tokens.{Token, TrueKey, FalseKey}
+use Rattle.cond_text.specs.Drafts.{IsDraft}
+use Rattle.cond_text.specs.Levels.{IsLevel, LeadsConjunction, LeadsLevel}
+use Rattle.cond_text.specs.Sources.{reading, Stops, IsAtEnd}
+use Rattle.cond_text.specs.declared.sources.Source.{Source}
+use Rattle.cond_text.specs.declared.sources.Stop.{Stop}
+use Rattle.cond_text.specs.declared.sources.Stop.TheVariants.{Wrong, Cut, NoMemory}
+use Rattle.cond_text.specs.declared.drafts.Draft.{Draft}
+use Rattle.cond_text.specs.declared.levels.Level.{Level}
+use Rattle.cond_text.specs.declared.readers.Place.{Place}
+use Rattle.cond_text.specs.declared.readers.Place.TheVariants.{Due, Done}
+use Rattle.cond_text.specs.declared.readers.Reader.{Reader}
+
+-- levels, the innermost first, stand for the frames outside of the innermost parenthesis
+abbrev pub AreOutside : ℕ → List Level → Option (List Frame) → Type 0
+AreOutside kind [] base = base ≡ None
+AreOutside kind (level ∷ levels) base = (frames : List Frame) × (below : Option (List Frame)) × (base ≡ Some frames) × IsLevel kind level below frames × AreOutside kind levels below
+
+abbrev pub IsPlace : ℕ → Option (List Frame) → Place → State → Type 0
+IsPlace kind base (Due level) state = LeadsLevel kind base state level
+IsPlace kind base (Done conjunction) state = LeadsConjunction kind base state conjunction
+
+-- what has been read is this state, with the words of a kind
+pub record IsRead (kind : ℕ) (reader : Reader) (state : State) : Type 0 where
+  pub base : Option (List Frame)
+  pub outer : AreOutside kind (reverse reader.outer.items) base
+  pub place : IsPlace kind base reader.place state
+
+-- the reader has come to this state, if there is one
+abbrev pub IsTaken : ℕ → Option State → Option Reader → Type 0
+IsTaken kind state (Some reader) = (next : State) × IsRead kind reader next × (state ≡ Some next)
+IsTaken kind state None = state ≡ None
+
+-- What is read leads from this state, if there is one, to that of the reader.
+abbrev pub LeadsReader : ℕ → Source → Source → Option State → Result Reader Stop → Type 0
+LeadsReader kind old new state (Ok reader) = (next : State) × IsRead kind reader next × (reading state old ≡ reading (Some next) new)
+LeadsReader kind old new state (Err stop) = Stops old state stop
+
+-- the state after a token where a unit is due, no `not` and no parenthesis
+abbrev pub unit_begun : List Frame → Token → Option State
+unit_begun frames TrueKey = Some (unit_done True frames)
+unit_begun frames FalseKey = Some (unit_done False frames)
+unit_begun frames t = term_begun First frames t
+
+-- what is read is a unit that this token begins, no `not` and no parenthesis
+abbrev pub LeadsUnit : Source → Source → Token → Result Draft Stop → Type 0
+LeadsUnit old new t (Ok draft) = (written : Written) × IsDraft (kind_number old.kind) written draft × ((frames : List Frame) → reading (unit_begun frames t) old ≡ reading (Some (unit_done written frames)) new)
+LeadsUnit old new t (Err stop) = (frames : List Frame) → Stops old (unit_begun frames t) stop
+
+-- the condition that has been read, if it is whole
+abbrev pub IsEnded : ℕ → Option Written → Result Draft Stop → Type 0
+IsEnded kind whole (Ok draft) = (written : Written) × IsDraft kind written draft × (whole ≡ Some written)
+IsEnded kind whole (Err Wrong) = whole ≡ None
+IsEnded kind whole (Err Cut) = ⊥
+IsEnded kind whole (Err NoMemory) = Unit {0}
+
+-- what reading all tokens comes to
+abbrev pub IsReadWhole : Source → Source → Result Draft Stop → Type 0
+IsReadWhole old new (Ok draft) = (written : Written) × IsDraft (kind_number old.kind) written draft × (reading (Some (Operand [])) old ≡ Whole written) × IsAtEnd new
+IsReadWhole old new (Err Wrong) = reading (Some (Operand [])) old ≡ machine.Wrong
+IsReadWhole old new (Err Cut) = (reading (Some (Operand [])) old ≡ machine.Cut) × IsAtEnd new
+IsReadWhole old new (Err NoMemory) = Unit {0}

@@ -1,0 +1,216 @@
+//! Reading the tokens of a condition one after another.
+
+ghost use Rattle.std.specs.Prelude.{ℕ, List, ◌∷◌, [], Option, reverse, IfOk};
+ghost use Rattle.gx_base.specs.Kinds.{kind_number};
+ghost use Rattle.cond_syntax.specs.Written.{Written};
+ghost use Rattle.cond_syntax.specs.Machine as machine;
+ghost use Rattle.cond_syntax.specs.Machine.{State, Frame, Operand, step, unit_done, close_read, whole};
+ghost use Rattle.cond_text.specs.CodeTokens.{token_seen};
+ghost use Rattle.cond_text.specs.Drafts.{IsDraft};
+ghost use Rattle.cond_text.specs.Levels.{IsLevel, IsConjunction};
+ghost use Rattle.cond_text.specs.Sources.{IsLater, IsStopped};
+ghost use Rattle.cond_text.specs.Readers.{AreOutside, IsRead, IsTaken, LeadsReader, LeadsUnit, IsEnded, IsReadWhole};
+
+use crate::drafts::Draft;
+use crate::levels::{Conjunction, Level};
+use crate::sources::{Next, Source, Stop};
+use crate::terms::read_comparison;
+use crate::tokens::Token;
+use gx_base::{Cond, NoMemory};
+use std::alloc::Global;
+
+/// What has been read inside of the innermost parenthesis.
+#[derive(Drop)]
+enum Place {
+    /// A unit is due.
+    Due(Level),
+    /// A conjunction has been read.
+    Done(Conjunction),
+}
+
+/// What has been read.
+#[derive(Drop)]
+struct Reader {
+    alloc: Global,
+    /// What waits outside of each open parenthesis, the innermost last.
+    outer: Vec<Level>,
+    place: Place,
+}
+
+impl Reader {
+    fn new(alloc: Global) -> Self
+        ensures { (kind : ℕ) → IsRead kind result (Operand []) }
+    {
+        Reader {
+            alloc,
+            outer: Vec::new(alloc),
+            place: Place::Due(Level::new()),
+        }
+    }
+
+    /// A unit is due inside of a level.
+    fn due(alloc: Global, outer: Vec<Level>, level: Level) -> Self
+        ensures { (kind : ℕ) (base : Option (List Frame)) (frames : List Frame) → AreOutside kind (reverse outer.items) base → IsLevel kind level base frames → IsRead kind result (Operand frames) }
+    {
+        Reader {
+            alloc,
+            outer,
+            place: Place::Due(level),
+        }
+    }
+
+    /// What has been read after one more token, or after all of the comparison that it begins.
+    fn take<'a>(self, source: &mut Source<'a>, token: Token<'a>) -> Result<Self, Stop>
+        ensures later { IsLater source.old source.new }
+        ensures stopped { IsStopped source.new result }
+        ensures leads { (state : State) → IsRead (kind_number source.old.kind) self state → LeadsReader (kind_number source.old.kind) source.old source.new (step state (token_seen token.entry)) result }
+    {
+        let Reader {
+            alloc,
+            outer,
+            place,
+        } = self;
+        match place {
+            Place::Due(level) => take_due(alloc, outer, level, source, token),
+            Place::Done(conjunction) => match take_done(alloc, outer, conjunction, token)? {
+                Some(reader) => Ok(reader),
+                None => Err(Stop::Wrong),
+            },
+        }
+    }
+
+    /// The condition that has been read.
+    fn end(self) -> Result<Draft, Stop>
+        ensures { (kind : ℕ) (state : State) → IsRead kind self state → IsEnded kind (whole state) result }
+    {
+        let Reader {
+            alloc,
+            outer,
+            place,
+        } = self;
+        let Place::Done(conjunction) = place else {
+            return Err(Stop::Wrong);
+        };
+        if !outer.is_empty() {
+            return Err(Stop::Wrong);
+        }
+        let draft = conjunction.condition(alloc)?;
+        Ok(draft)
+    }
+}
+
+/// A unit has been read.
+fn after_unit(
+    alloc: Global,
+    outer: Vec<Level>,
+    level: Level,
+    unit: Draft,
+) -> Result<Reader, NoMemory>
+    ensures { (kind : ℕ) (base : Option (List Frame)) (frames : List Frame) (written : Written) → AreOutside kind (reverse outer.items) base → IsLevel kind level base frames → IsDraft kind written unit → IfOk result (λ reader. IsRead kind reader (unit_done written frames)) }
+{
+    let conjunction = level.after_unit(alloc, unit)?;
+    Ok(Reader {
+        alloc,
+        outer,
+        place: Place::Done(conjunction),
+    })
+}
+
+/// A `(` has been read.
+fn after_open(alloc: Global, outer: Vec<Level>, level: Level) -> Result<Reader, NoMemory>
+    ensures { (kind : ℕ) (base : Option (List Frame)) (frames : List Frame) → AreOutside kind (reverse outer.items) base → IsLevel kind level base frames → IfOk result (λ reader. IsRead kind reader (Operand (machine.Group ∷ frames))) }
+{
+    let mut outer = outer;
+    outer.push(level)?;
+    Ok(Reader::due(alloc, outer, Level::new()))
+}
+
+/// A `)` has been read, if one is open.
+fn after_close(
+    alloc: Global,
+    outer: Vec<Level>,
+    conjunction: Conjunction,
+) -> Result<Option<Reader>, NoMemory>
+    ensures { (kind : ℕ) (base : Option (List Frame)) (last : Written) (frames : List Frame) → AreOutside kind (reverse outer.items) base → IsConjunction kind conjunction base last frames → IfOk result (IsTaken kind (close_read last frames)) }
+{
+    let mut outer = outer;
+    let Some(level) = outer.pop() else {
+        return Ok(None);
+    };
+    let unit = conjunction.condition(alloc)?;
+    let reader = after_unit(alloc, outer, level, unit)?;
+    Ok(Some(reader))
+}
+
+/// What a token leads to where a unit is due.
+fn take_due<'a>(
+    alloc: Global,
+    outer: Vec<Level>,
+    level: Level,
+    source: &mut Source<'a>,
+    token: Token<'a>,
+) -> Result<Reader, Stop>
+    ensures later { IsLater source.old source.new }
+    ensures stopped { IsStopped source.new result }
+    ensures leads { (base : Option (List Frame)) (frames : List Frame) → AreOutside (kind_number source.old.kind) (reverse outer.items) base → IsLevel (kind_number source.old.kind) level base frames → LeadsReader (kind_number source.old.kind) source.old source.new (step (Operand frames) (token_seen token.entry)) result }
+{
+    match token {
+        Token::NotKey => Ok(Reader::due(alloc, outer, level.after_not())),
+        Token::Open => Ok(after_open(alloc, outer, level)?),
+        _ => {
+            let unit = read_unit(source, token)?;
+            Ok(after_unit(alloc, outer, level, unit)?)
+        }
+    }
+}
+
+/// Reads the unit that a token begins, no `not` and no parenthesis.
+fn read_unit<'a>(source: &mut Source<'a>, token: Token<'a>) -> Result<Draft, Stop>
+    ensures later { IsLater source.old source.new }
+    ensures stopped { IsStopped source.new result }
+    ensures leads { LeadsUnit source.old source.new (token_seen token.entry) result }
+{
+    match token {
+        Token::TrueKey => Ok(Draft::Kept(Cond::True, 1)),
+        Token::FalseKey => Ok(Draft::Kept(Cond::False, 1)),
+        _ => {
+            let comparison = read_comparison(source, token)?;
+            Ok(comparison.draft(source.kind()))
+        }
+    }
+}
+
+/// What a token leads to after a conjunction, if it can stand there.
+fn take_done(
+    alloc: Global,
+    outer: Vec<Level>,
+    conjunction: Conjunction,
+    token: Token<'_>,
+) -> Result<Option<Reader>, NoMemory>
+    ensures { (kind : ℕ) (base : Option (List Frame)) (last : Written) (frames : List Frame) → AreOutside kind (reverse outer.items) base → IsConjunction kind conjunction base last frames → IfOk result (IsTaken kind (step (machine.Done last frames) (token_seen token.entry))) }
+{
+    match token {
+        Token::AndKey => Ok(Some(Reader::due(alloc, outer, conjunction.after_and()))),
+        Token::OrKey => {
+            let level = conjunction.after_or(alloc)?;
+            Ok(Some(Reader::due(alloc, outer, level)))
+        }
+        Token::Close => after_close(alloc, outer, conjunction),
+        _ => Ok(None),
+    }
+}
+
+/// Reads the tokens of a condition.
+pub(crate) fn read_tokens(alloc: Global, source: &mut Source<'_>) -> Result<Draft, Stop>
+    ensures later { IsLater source.old source.new }
+    ensures whole { IsReadWhole source.old source.new result }
+{
+    let mut reader = Reader::new(alloc);
+    loop {
+        match source.next() {
+            Next::Read(token) => reader = reader.take(source, token)?,
+            Next::End => return reader.end(),
+            Next::Cut => return Err(Stop::Cut),
+        }
+    }
+}

@@ -1,0 +1,139 @@
+//! Reading comparisons and their terms.
+
+ghost use Rattle.std.specs.Prelude.{◌≡◌, List, Some};
+ghost use Rattle.gx_base.specs.Kinds.{kind_number};
+ghost use Rattle.cond_syntax.specs.Written.{WrittenTerm, term_of};
+ghost use Rattle.cond_syntax.specs.Machine as machine;
+ghost use Rattle.cond_syntax.specs.Machine.{Frame, Due, OpenDue, OperatorDue, TermDue, term_done, unit_done};
+ghost use Rattle.cond_text.specs.CodeTokens.{token_seen};
+ghost use Rattle.cond_text.specs.Comparisons.{term_spelled, relation_spelled, comparison_spelled, term_begun};
+ghost use Rattle.cond_text.specs.Drafts.{IsDraft};
+ghost use Rattle.cond_text.specs.Sources.{IsLater, IsStopped, Leads};
+
+use crate::drafts::Draft;
+use crate::sources::{Source, Stop};
+use crate::tokens::Token;
+use crate::words::{part_named, term_named};
+use gx_base::{Cond, Kind, Term};
+
+/// A term as it is written.
+#[derive(Clone, Copy, Drop)]
+pub(crate) enum Spelled<'a> {
+    Number(i64),
+    Word(&'a [u8]),
+    Beyond(&'a [u8], &'a [u8], &'a [u8]),
+}
+
+/// What a comparison says of its terms.
+#[derive(Clone, Copy, Drop)]
+pub(crate) enum Relation {
+    Equal,
+    Differ,
+    Less,
+    AtMost,
+}
+
+/// A comparison as it is written.
+#[derive(Clone, Copy, Drop)]
+pub(crate) struct Comparison<'a> {
+    left: Spelled<'a>,
+    relation: Relation,
+    right: Spelled<'a>,
+}
+
+impl Spelled<'_> {
+    /// The term that is written, where its words are known.
+    fn term(self, kind: Kind) -> Option<Term>
+        ensures { result ≡ term_of (kind_number kind) (term_spelled self.entry) }
+    {
+        match self {
+            Spelled::Number(number) => Some(Term::Const(number)),
+            Spelled::Word(word) => term_named(kind, word),
+            Spelled::Beyond(x, y, z) => match (part_named(x), part_named(y), part_named(z)) {
+                (Some(x), Some(y), Some(z)) => Some(Term::Beyond(x, y, z)),
+                _ => None,
+            },
+        }
+    }
+}
+
+impl Comparison<'_> {
+    /// What is kept of the comparison.
+    pub(crate) fn draft(self, kind: Kind) -> Draft
+        ensures { IsDraft (kind_number kind) (comparison_spelled self.entry) result }
+    {
+        let (Some(x), Some(y)) = (self.left.term(kind), self.right.term(kind)) else {
+            return Draft::Lost;
+        };
+        match self.relation {
+            Relation::Equal => Draft::Kept(Cond::Eq(x, y), 1),
+            Relation::Differ => Draft::Kept(Cond::Ne(x, y), 1),
+            Relation::Less => Draft::Kept(Cond::Lt(x, y), 1),
+            Relation::AtMost => Draft::Kept(Cond::Le(x, y), 1),
+        }
+    }
+}
+
+/// Reads what follows `beyond`.
+fn read_beyond<'a>(source: &mut Source<'a>) -> Result<Spelled<'a>, Stop>
+    ensures later { IsLater source.old source.new }
+    ensures stopped { IsStopped source.new result }
+    ensures leads { (due : Due) (frames : List Frame) → Leads source.old source.new (Some (OpenDue due frames)) (λ x. term_done (term_spelled x) due frames) result }
+{
+    source.opening()?;
+    let x = source.word()?;
+    source.comma()?;
+    let y = source.word()?;
+    source.comma()?;
+    let z = source.word()?;
+    source.closing()?;
+    Ok(Spelled::Beyond(x, y, z))
+}
+
+/// Reads the term that a token begins.
+fn read_term<'a>(source: &mut Source<'a>, token: Token<'a>) -> Result<Spelled<'a>, Stop>
+    ensures later { IsLater source.old source.new }
+    ensures stopped { IsStopped source.new result }
+    ensures leads { (due : Due) (frames : List Frame) → Leads source.old source.new (term_begun due frames (token_seen token.entry)) (λ x. term_done (term_spelled x) due frames) result }
+{
+    match token {
+        Token::Number(number) => Ok(Spelled::Number(number)),
+        Token::Word(word) => Ok(Spelled::Word(word)),
+        Token::BeyondKey => read_beyond(source),
+        _ => Err(Stop::Wrong),
+    }
+}
+
+fn read_relation(source: &mut Source<'_>) -> Result<Relation, Stop>
+    ensures later { IsLater source.old source.new }
+    ensures stopped { IsStopped source.new result }
+    ensures leads { (x : WrittenTerm) (frames : List Frame) → Leads source.old source.new (Some (OperatorDue x frames)) (λ relation. TermDue x (relation_spelled relation) frames) result }
+{
+    match source.token()? {
+        Token::Equal => Ok(Relation::Equal),
+        Token::Differ => Ok(Relation::Differ),
+        Token::Less => Ok(Relation::Less),
+        Token::AtMost => Ok(Relation::AtMost),
+        _ => Err(Stop::Wrong),
+    }
+}
+
+/// Reads the comparison that a token begins.
+pub(crate) fn read_comparison<'a>(
+    source: &mut Source<'a>,
+    token: Token<'a>,
+) -> Result<Comparison<'a>, Stop>
+    ensures later { IsLater source.old source.new }
+    ensures stopped { IsStopped source.new result }
+    ensures leads { (frames : List Frame) → Leads source.old source.new (term_begun machine.First frames (token_seen token.entry)) (λ comparison. unit_done (comparison_spelled comparison) frames) result }
+{
+    let left = read_term(source, token)?;
+    let relation = read_relation(source)?;
+    let second = source.token()?;
+    let right = read_term(source, second)?;
+    Ok(Comparison {
+        left,
+        relation,
+        right,
+    })
+}
