@@ -98,18 +98,21 @@ fn a_relabel_is_taken_back_to_the_old_height(rt: HostRuntime) -> Result<(), Fail
 
 #[test]
 fn tidy_keeps_the_numbers_and_drops_dead_rows(rt: HostRuntime) -> Result<(), Fail> {
-    let mut shard = FlowShard::new(rt.alloc());
-    for node in 0..6 {
-        shard.apply(call(GAIN, node, 5))?;
+    for (method, reads) in [(RELABEL, HEIGHT), (GAIN, EXCESS), (SEND, FLOW)] {
+        let mut shard = FlowShard::new(rt.alloc());
+        for key in 0..6 {
+            shard.apply(call(method, key, 5))?;
+        }
+        for key in 1..6 {
+            assert!(rt; taken_back(&mut shard, call(method, key, 5), reply(0)));
+        }
+        shard.tidy()?;
+        assert_eq!(rt; shard.apply(call(reads, 0, 0))?, reply(5));
+        assert_eq!(rt; shard.apply(call(reads, 1, 0))?, reply(0));
+        assert!(rt; shard.roomed(call(method, 0, 5), reply(0)));
+        assert!(rt; !shard.roomed(call(method, 1, 5), reply(0)));
+        assert!(rt; shard.roomed(call(reads, 1, 0), reply(0)));
     }
-    for node in 1..6 {
-        assert!(rt; taken_back(&mut shard, call(GAIN, node, 5), reply(0)));
-    }
-    shard.tidy()?;
-    assert_eq!(rt; (shard.excess(0), shard.excess(1)), (5, 0));
-    assert!(rt; shard.roomed(call(GAIN, 0, 5), reply(0)));
-    assert!(rt; !shard.roomed(call(GAIN, 1, 5), reply(0)));
-    assert!(rt; shard.roomed(call(EXCESS, 1, 0), reply(0)));
     Ok(())
 }
 
