@@ -7,7 +7,10 @@ pub mod SerialSteps
 pub mod LeastFirst
 pub mod FlowLineSteps
 pub mod FlowRooms
+pub mod ClassLines
 pub mod RunCauses
+pub mod Refusals
+pub mod FaultyFiles
 pub mod FlowWrites
 pub mod FlowPours
 pub mod ReadyNodes

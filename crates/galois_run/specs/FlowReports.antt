@@ -7,15 +7,7 @@ use Rattle.gx_base.specs.States.{State}
 use Rattle.galois_run.specs.declared.preflow_push.network.Arc.{Arc}
 use Rattle.galois_run.specs.Networks.{Net}
 use Rattle.galois_run.specs.FlowStates.{excess_in, flow_in}
-
--- fields with one space between
-abbrev pub spaced : List (List ℕ) → List ℕ
-spaced [] = []
-spaced (field ∷ []) = field
-spaced (field ∷ next ∷ fields) = field ++ 32 ∷ spaced (next ∷ fields)
-
-abbrev pub line : List (List ℕ) → List ℕ
-line fields = spaced fields ++ 10 ∷ []
+use Rattle.galois_run.specs.ReportLines.{line}
 
 -- a commit of the work on a node
 abbrev pub node_line : ℤ → List ℕ

@@ -9,9 +9,12 @@ pub mod Discharge
 pub mod Places
 pub mod Discharges
 pub mod FlowStates
+pub mod ReportLines
 pub mod FlowReports
 pub mod Starts
 pub mod SerialRuns
 pub mod Statuses
+pub mod Classifying
 pub mod Words
+pub mod RunFaults
 pub mod RunTurns

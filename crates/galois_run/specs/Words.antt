@@ -1,8 +1,8 @@
 -- The words of a command line.
-use Rattle.std.specs.Prelude.{◌≡◌, ℕ, Bool, not, ◌&&◌, ◌==◌, if◌then◌else◌, List, [], ◌∷◌, length, Option, Some, None, codes, bytes_eq, nat_eq, string_bytes}
+use Rattle.std.specs.Prelude.{◌≡◌, ℕ, Bool, not, ◌&&◌, ◌==◌, if◌then◌else◌, List, [], ◌∷◌, length, Option, Some, None, IfSome, codes, bytes_eq, nat_eq, string_bytes}
 use Rattle.std.specs.List.{starts_with}
 use Rattle.galois_run.specs.declared.words.Command.{Command}
-use Rattle.galois_run.specs.declared.words.Command.TheVariants.{Flow}
+use Rattle.galois_run.specs.declared.words.Command.TheVariants.{Flow, Classify}
 use Rattle.galois_run.specs.declared.words.Plan.{Plan}
 
 -- a command and the name of its file
@@ -11,7 +11,10 @@ pub record Planned : Type 0 where
   pub file : List ℕ
 
 abbrev pub command_of : List ℕ → Option Command
-command_of word = if bytes_eq word (codes "flow") then Some Flow else None
+command_of word =
+    if bytes_eq word (codes "flow") then Some Flow
+    else if bytes_eq word (codes "classify") then Some Classify
+    else None
 
 -- a word that isn't empty and doesn't begin with two dashes
 abbrev pub is_plain : List ℕ → Bool
@@ -34,7 +37,7 @@ planned plan = record { command = plan.command; file = string_bytes plan.file }
 abbrev pub IsPlanned : Option Planned → Plan → Type 0
 IsPlanned wanted plan = wanted ≡ Some (planned plan)
 
--- what the files hold under the plan's name, where there is a plan and they tell it
-abbrev pub held_by : Option Planned → (List ℕ → Option (List ℕ)) → Option (List ℕ)
-held_by None holds = None
-held_by (Some plan) holds = holds plan.file
+-- what holds of the plan's command and of the bytes under the plan's name, where there is a plan and the files tell them
+abbrev pub OnFile : Option Planned → (List ℕ → Option (List ℕ)) → (Command → List ℕ → Type 0) → Type 0
+OnFile None holds fact = Unit {0}
+OnFile (Some plan) holds fact = IfSome (holds plan.file) (fact plan.command)

@@ -1,44 +1,27 @@
 //! The command `flow`: from the bytes of a file to those of its report.
 
-ghost use Rattle.std.specs.Prelude.{◌≡◌, Err, IfOk};
-ghost use Rattle.galois_run.specs.FlowFiles.{IsFlowFile};
-ghost use Rattle.galois_run.specs.Networks.{Net, view};
-ghost use Rattle.galois_run.specs.RunTurns.{IsReported, IsReportOf, IsUnfinished, IsRunOn};
-ghost use Rattle.galois_run.specs.declared.flow.RunFault.TheVariants as faults;
+ghost use Rattle.std.specs.Prelude.{◌≡◌, ℕ, Err, IfOk};
+ghost use Rattle.galois_run.specs.Networks.{view};
+ghost use Rattle.galois_run.specs.RunTurns.{IsFlowReport, IsReportOf, IsUnfinished, IsMalformed, IsRunOn};
+ghost use Rattle.galois_run.specs.declared.run_faults.RunFault.TheVariants as faults;
+ghost use Rattle.galois_run.specs.declared.words.Command.TheVariants as commands;
 
 use crate::preflow_push::{Discharge, Network, read_max, report, start};
+use crate::run_faults::RunFault;
 use crate::serial::{SerialStop, run_serially};
-use gx_base::{InputFault, NoMemory};
+use gx_base::InputFault;
 use std::alloc::Global;
-
-/// Why there is no report on a file.
-#[derive(Clone, Copy, Debug, PartialEq, Eq, Drop)]
-pub enum RunFault {
-    /// The file is not of the form.
-    BadInput,
-    /// As many items have committed as may, and one is ready.
-    Spent,
-    NoMemory,
-}
-
-impl From<NoMemory> for RunFault {
-    ghost from_gives = { λ _ fault. fault ≡ faults.NoMemory };
-
-    fn from(_refused: NoMemory) -> RunFault {
-        RunFault::NoMemory
-    }
-}
 
 /// The report on the network of a flow file.
 pub fn flow_text(alloc: Global, bytes: &[u8]) -> Result<Vec<u8>, RunFault>
-    ensures reported { IfOk result (λ text. IsReported bytes.now text.items) }
-    ensures malformed { result ≡ Err faults.BadInput → (net : Net) → IsFlowFile bytes.now net → ⊥ }
+    ensures reported { IfOk result (λ text. IsFlowReport bytes.now text.items) }
+    ensures malformed { (line : ℕ) → result ≡ Err (faults.BadInput line) → IsMalformed commands.Flow bytes.now line }
     ensures run_on { result ≡ Err faults.Spent → IsRunOn bytes.now }
 {
     match read_max(alloc, bytes) {
         Ok(net) => network_text(alloc, &net),
         Err(InputFault::NoMemory) => Err(RunFault::NoMemory),
-        Err(_) => Err(RunFault::BadInput),
+        Err(_) => Err(RunFault::BadInput { line: 0 }),
     }
 }
 
@@ -46,7 +29,7 @@ pub fn flow_text(alloc: Global, bytes: &[u8]) -> Result<Vec<u8>, RunFault>
 fn network_text(alloc: Global, net: &Network) -> Result<Vec<u8>, RunFault>
     ensures reported { IfOk result (λ text. IsReportOf (view net.now) text.items) }
     ensures run_on { result ≡ Err faults.Spent → IsUnfinished (view net.now) }
-    ensures well_formed { result ≡ Err faults.BadInput → ⊥ }
+    ensures well_formed { (line : ℕ) → result ≡ Err (faults.BadInput line) → ⊥ }
 {
     let (mut shards, ready) = start(alloc, net)?;
     let operator = Discharge::new(alloc, net)?;

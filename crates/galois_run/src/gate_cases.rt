@@ -127,3 +127,20 @@ fn gate_relabel_undo(rt: HostRuntime) -> Result<(), Fail> {
     assert_eq!(rt; gate.object().height(4), 0);
     Ok(())
 }
+
+#[test]
+fn a_gate_without_uncommitted_entries_tidies_its_object(rt: HostRuntime) -> Result<(), Fail> {
+    let mut gate = precise_gate(rt.alloc())?;
+    let gain = call(GAIN, 1, 5);
+    assert_eq!(rt; gate.call(1, 0, ITEM, call(EXCESS, 7, 0)), Ok(reply(0)));
+    assert_eq!(rt; gate.call(0, 0, ITEM, gain), Ok(reply(0)));
+    assert_eq!(rt; gate.undo_last(0, 0), Some((gain, reply(0))));
+    // The row of node 1 is dead now, and stays while the entry of worker 1 may still be undone.
+    assert_eq!(rt; gate.call(0, 0, ITEM, call(EXCESS, 9, 0)), Ok(reply(0)));
+    assert!(rt; gate.object().roomed(gain, reply(0)));
+    assert_eq!(rt; gate.undo_last(0, 0), Some((call(EXCESS, 9, 0), reply(0))));
+    assert_eq!(rt; gate.undo_last(1, 0), Some((call(EXCESS, 7, 0), reply(0))));
+    assert_eq!(rt; gate.call(0, 1, ITEM, call(EXCESS, 9, 0)), Ok(reply(0)));
+    assert!(rt; !gate.object().roomed(gain, reply(0)));
+    Ok(())
+}

@@ -16,27 +16,32 @@ const FOUR_NODES_REPORT: &str =
 
 /// How a run ended, and what it wrote.
 #[derive(Drop)]
-struct Ended {
-    status: Status,
-    written: Vec<u8>,
+pub(crate) struct Ended {
+    pub status: Status,
+    pub written: Vec<u8>,
 }
 
 /// What is to fail in a run, by the numbers of the calls, and how much a write takes.
 #[derive(Clone, Copy)]
-struct Trouble<'a> {
-    reads: &'a [u64],
-    writes: &'a [u64],
-    most: usize,
+pub(crate) struct Trouble<'a> {
+    pub reads: &'a [u64],
+    pub writes: &'a [u64],
+    pub most: usize,
 }
 
-const NONE: Trouble = Trouble {
+pub(crate) const NONE: Trouble = Trouble {
     reads: &[],
     writes: &[],
     most: 65_536,
 };
 
 /// Runs the program on these words, where the file `net` holds this text.
-fn run_words(alloc: Global, words: &[&str], text: &str, trouble: Trouble) -> Result<Ended, Fail>
+pub(crate) fn run_words(
+    alloc: Global,
+    words: &[&str],
+    text: &str,
+    trouble: Trouble,
+) -> Result<Ended, Fail>
     requires { 1 ≤ trouble.most }
 {
     let mut all = Vec::new(alloc);
@@ -145,7 +150,7 @@ fn short_writes(rt: HostRuntime) -> Result<(), Fail> {
 #[test]
 fn usage_words(rt: HostRuntime) -> Result<(), Fail> {
     let alloc = rt.alloc();
-    let wrong: [&[&str]; 7] = [
+    let wrong: [&[&str]; 10] = [
         &[],
         &["flow"],
         &["flow", "net", "net"],
@@ -153,6 +158,9 @@ fn usage_words(rt: HostRuntime) -> Result<(), Fail> {
         &["flow", ""],
         &["fly", "net"],
         &["FLOW", "net"],
+        &["classify"],
+        &["classify", "net", "net"],
+        &["classify", "--table"],
     ];
     for words in wrong {
         let run = run_words(alloc, words, FOUR_NODES, NONE)?;

@@ -9,6 +9,8 @@ use std::alloc::{AllocError, Global};
 pub enum Command {
     /// Runs the maximum flow program on a file.
     Flow,
+    /// Tells the classes of a table's rows.
+    Classify,
 }
 
 /// The words of a command line, understood.
@@ -38,6 +40,7 @@ fn command_named(word: &str) -> Option<Command>
 {
     match word {
         "flow" => Some(Command::Flow),
+        "classify" => Some(Command::Classify),
         _ => None,
     }
 }

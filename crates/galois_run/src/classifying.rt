@@ -1,0 +1,125 @@
+//! The command `classify`: from the text of a table to the classes of its rows.
+
+ghost use Rattle.std.specs.Prelude.{◌≡◌, ℕ, Err, IfOk, OnOk, [], ◌∷◌, ◌++◌, codes};
+ghost use Rattle.gx_base.specs.Conditions.{condition_of};
+ghost use Rattle.gx_base.specs.TableRows.{row_of};
+ghost use Rattle.galois_run.specs.Classifying.{all_kinds, class_text, pair_line, first_lines, classify_text};
+ghost use Rattle.galois_run.specs.ReportLines.{line};
+ghost use Rattle.galois_run.specs.RunTurns.{IsClassReport, IsFaultyTable, FaultsWhere};
+ghost use Rattle.galois_run.specs.declared.run_faults.RunFault.TheVariants as faults;
+
+use crate::run_faults::RunFault;
+use cond_lattice::{Grade, class};
+use cond_text::{print_cond, read_table};
+use gx_base::{Cond, Kind, NoMemory, Table, method_at, word_of};
+use std::alloc::{AllocError, Global};
+
+fn class_word(grade: Grade) -> &'static str
+    ensures { result.now ≡ class_text grade }
+{
+    match grade {
+        Grade::Simple => "SIMPLE",
+        Grade::Online => "ONLINE",
+        Grade::General => "GENERAL",
+    }
+}
+
+fn put_word(text: &mut Vec<u8>, word: &str) -> Result<(), AllocError>
+    ensures { OnOk result (text.new.items ≡ text.old.items ++ 32 ∷ word.now) }
+{
+    text.push(b' ')?;
+    text.extend_from_slice(word.as_bytes())
+}
+
+fn put_words(
+    text: &mut Vec<u8>,
+    first: &str,
+    second: &str,
+    class: &str,
+    row: &str,
+) -> Result<(), AllocError>
+    ensures { OnOk result (text.new.items ≡ text.old.items ++ line (codes "row" ∷ first.now ∷ second.now ∷ class.now ∷ row.now ∷ [])) }
+{
+    text.extend_from_slice(b"row")?;
+    put_word(text, first)?;
+    put_word(text, second)?;
+    put_word(text, class)?;
+    put_word(text, row)?;
+    text.extend_from_slice(b"\n")
+}
+
+/// Puts the line of a pair of methods with this row.
+fn put_row(
+    alloc: Global,
+    text: &mut Vec<u8>,
+    first: u32,
+    second: u32,
+    row: &Cond,
+) -> Result<(), NoMemory>
+    ensures { OnOk result (text.new.items ≡ text.old.items ++ pair_line first second (condition_of row.now)) }
+{
+    let printed = print_cond(alloc, row)?;
+    put_words(
+        text,
+        word_of(first),
+        word_of(second),
+        class_word(class(row)),
+        printed.as_str(),
+    )?;
+    Ok(())
+}
+
+/// Puts the lines of the rows with this method first.
+#[tactic(auto, using(cond_lattice::proofs::MethodLemmas::methods_end, cond_lattice::proofs::MethodLemmas::place_below, crate::proofs::ClassLines::all_lines))]
+fn put_first(
+    alloc: Global,
+    text: &mut Vec<u8>,
+    kind: Kind,
+    table: &Table,
+    first: u32,
+) -> Result<(), NoMemory>
+    ensures { OnOk result (text.new.items ≡ text.old.items ++ first_lines kind (row_of table.now) first) }
+{
+    let mut place = 0;
+    while let Some(second) = method_at(kind, place) {
+        put_row(alloc, text, first, second, table.row(first, second))?;
+        place += 1;
+    }
+    Ok(())
+}
+
+/// Tells each row of a table: its methods, its class and its condition.
+#[tactic(auto, using(cond_lattice::proofs::MethodLemmas::methods_end, cond_lattice::proofs::MethodLemmas::place_below, crate::proofs::ClassLines::all_lines))]
+pub fn classify(alloc: Global, kind: Kind, table: &Table) -> Result<Vec<u8>, NoMemory>
+    ensures { IfOk result (λ text. text.items ≡ classify_text kind (row_of table.now)) }
+{
+    let mut text = Vec::new(alloc);
+    let mut place = 0;
+    while let Some(first) = method_at(kind, place) {
+        put_first(alloc, &mut text, kind, table, first)?;
+        place += 1;
+    }
+    Ok(text)
+}
+
+fn kinds() -> [Kind; 5]
+    ensures { result ≡ all_kinds }
+{
+    [
+        Kind::Set,
+        Kind::Cells,
+        Kind::Flow,
+        Kind::Points,
+        Kind::Domains,
+    ]
+}
+
+/// The report on the table of a file.
+pub fn classify_bytes(alloc: Global, bytes: &[u8]) -> Result<Vec<u8>, RunFault>
+    ensures reported { IfOk result (λ text. IsClassReport bytes.now text.items) }
+    ensures faulty { (line : ℕ) → FaultsWhere (IsFaultyTable bytes.now line) (faults.BadInput line) result }
+    ensures ends { result ≡ Err faults.Spent → ⊥ }
+{
+    let (kind, table) = read_table(alloc, bytes, &kinds())?;
+    Ok(classify(alloc, kind, &table)?)
+}
