@@ -6,8 +6,7 @@ use Rattle.std.proofs.lemmas.Bool.{and_parts, and_from, leb-true, ltb-true, ltb-
 use Rattle.gx_base.specs.declared.kinds.Kind.{Kind}
 use Rattle.gx_base.specs.declared.kinds.Kind.TheVariants.{Set, Cells, Flow, Points, Domains}
 use Rattle.gx_base.specs.Kinds.{kind_number}
-use Rattle.gx_base.specs.Methods.{first_method, words_of, is_method, method_at}
-use Rattle.cond_lattice.specs.Grades.{methods_of}
+use Rattle.gx_base.specs.Methods.{first_method, words_of, methods_of, is_method, method_at}
 
 pub few_methods : (kind : Kind) → length (words_of (kind_number kind)) ≤ 6
 few_methods Set = omega arith

@@ -5,11 +5,11 @@ use Rattle.std.proofs.Common.{inl, inr, arith, subst}
 use Rattle.std.proofs.lemmas.Bool.{and_parts, leb-true, ltb-true, cases_eq}
 use Rattle.gx_base.specs.declared.conditions.Side.TheVariants.{Second}
 use Rattle.gx_base.specs.Below.{names_state}
-use Rattle.gx_base.specs.Methods.{first_method, words_of, is_method}
+use Rattle.gx_base.specs.Methods.{first_method, words_of, methods_of, is_method}
 use Rattle.gx_base.specs.Tables.{Rows}
 use Rattle.cond_lattice.specs.declared.grades.Grade.{Grade}
 use Rattle.cond_lattice.specs.declared.grades.Grade.TheVariants.{Simple, Online, General}
-use Rattle.cond_lattice.specs.Grades.{is_simple, grade_of, methods_of, greater, greatest, first_grade, table_grade}
+use Rattle.cond_lattice.specs.Grades.{is_simple, grade_of, greater, greatest, first_grade, table_grade}
 
 -- a class is at most another
 abbrev pub IsAtMost : Grade → Grade → Type 0

@@ -1,12 +1,11 @@
 -- The classes of conditions.
-use Rattle.std.specs.Prelude.{ℕ, Bool, true, false, ◌&&◌, List, [], ◌∷◌, length, map, if◌then◌else◌}
-use Rattle.std.specs.List.{range_with_len}
+use Rattle.std.specs.Prelude.{ℕ, Bool, true, false, ◌&&◌, List, [], ◌∷◌, map, if◌then◌else◌}
 use Rattle.gx_base.specs.declared.conditions.Side.TheVariants.{First, Second}
 use Rattle.gx_base.specs.declared.conditions.Term.{Term}
 use Rattle.gx_base.specs.declared.conditions.Term.TheVariants.{Value}
 use Rattle.gx_base.specs.Conditions.{Condition, True, False, Ne, And}
 use Rattle.gx_base.specs.Below.{names_state}
-use Rattle.gx_base.specs.Methods.{first_method, words_of}
+use Rattle.gx_base.specs.Methods.{methods_of}
 use Rattle.gx_base.specs.Tables.{Rows}
 use Rattle.cond_lattice.specs.declared.grades.Grade.{Grade}
 use Rattle.cond_lattice.specs.declared.grades.Grade.TheVariants.{Simple, Online, General}
@@ -31,10 +30,6 @@ is_simple c = is_conjunction c
 -- the class of a condition
 abbrev pub grade_of : Condition → Grade
 grade_of c = if is_simple c then Simple else if names_state Second c then General else Online
-
--- the methods of a kind, by rising number
-abbrev pub methods_of : ℕ → List ℕ
-methods_of kind = range_with_len (first_method kind) (length (words_of kind))
 
 abbrev pub greater : Grade → Grade → Grade
 greater Simple g = g

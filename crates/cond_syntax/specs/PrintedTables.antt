@@ -8,7 +8,7 @@ use Rattle.gx_base.specs.declared.kinds.Kind.{Kind}
 use Rattle.gx_base.specs.declared.kinds.Kind.TheVariants.{Set, Cells, Flow, Points, Domains}
 use Rattle.gx_base.specs.Conditions.{Condition}
 use Rattle.gx_base.specs.Kinds.{kind_number}
-use Rattle.gx_base.specs.Methods.{first_method, is_method, method_of, words_of, word_of}
+use Rattle.gx_base.specs.Methods.{first_method, words_of, methods_of, is_method, method_of, word_of}
 use Rattle.gx_base.specs.Tables.{Rows}
 use Rattle.gx_base.specs.TableRows.{RowMap, pair_cmp, row_of, put_row}
 use Rattle.gx_base.specs.TableRowLaws.{pair_cmp_total, same_pair, row_of-empty, row_of-insert}
@@ -16,7 +16,7 @@ use Rattle.text_lines.specs.Lines.{lines_of}
 use Rattle.cond_syntax.specs.PieceLaws.{cases_bool, both, space-IsApart}
 use Rattle.cond_syntax.specs.Tokens.{Word, Colon, tokens_of}
 use Rattle.cond_syntax.specs.TableTexts.{kind_text, kind_named, is_skipped, IsTypeLine, Untyped, Typed, IsRead, type_line as type_read, row, AreRead}
-use Rattle.cond_syntax.specs.Printing.{condition_text, methods_of, table_text}
+use Rattle.cond_syntax.specs.Printing.{condition_text, table_text}
 use Rattle.cond_syntax.specs.Printable.{IsPrintable, IsPrintableTable, IsReadBack}
 use Rattle.cond_syntax.specs.PrintedTokens.{one-Reads}
 use Rattle.cond_syntax.specs.PrintedConditions.{printed_condition}
@@ -35,7 +35,7 @@ printed : (kind : Kind) (method : ℕ) → method_of (kind_number kind) (word_of
     → ((rest : List ℕ) → is_skipped (word_of method ++ rest) ≡ false) → IsPrinted kind method
 printed kind method n t c s = record { named = n; token = t; clean = c; seen = s }
 
-methods-IsPrinted : (kind : Kind) → EachOf (IsPrinted kind) (methods_of kind)
+methods-IsPrinted : (kind : Kind) → EachOf (IsPrinted kind) (methods_of (kind_number kind))
 methods-IsPrinted Set = (printed Set 0 refl refl refl (λ r. refl), (printed Set 1 refl refl refl (λ r. refl), (printed Set 2 refl refl refl (λ r. refl), tt)))
 methods-IsPrinted Cells = (printed Cells 8 refl refl refl (λ r. refl), (printed Cells 9 refl refl refl (λ r. refl), (printed Cells 10 refl refl refl (λ r. refl), tt)))
 methods-IsPrinted Flow = (
@@ -91,7 +91,7 @@ abbrev are_apart : List (ℕ × ℕ) → Bool
 are_apart [] = true
 are_apart (p ∷ ps) = is_apart p ps && are_apart ps
 
-pairs-are_apart : (kind : Kind) → are_apart (pairs_of (methods_of kind) (methods_of kind)) ≡ true
+pairs-are_apart : (kind : Kind) → are_apart (pairs_of (methods_of (kind_number kind)) (methods_of (kind_number kind))) ≡ true
 pairs-are_apart Set = refl
 pairs-are_apart Cells = refl
 pairs-are_apart Flow = refl
@@ -241,14 +241,14 @@ in_range-among start count n h =
     let parts : (nat_le start n ≡ true) × (nat_lt n (start + count) ≡ true) = both (nat_le start n) (nat_lt n (start + count)) h in
     range-among start count n (at_least start n parts.0) (below n (start + count) parts.1)
 
-among_methods : (kind : Kind) (method : ℕ) → is_method (kind_number kind) method ≡ true → is_among method (methods_of kind) ≡ true
+among_methods : (kind : Kind) (method : ℕ) → is_method (kind_number kind) method ≡ true → is_among method (methods_of (kind_number kind)) ≡ true
 among_methods kind method h = in_range-among (first_method (kind_number kind)) (length (words_of (kind_number kind))) method h
 
-methods-has : (kind : Kind) (i j : ℕ) → is_method (kind_number kind) i ≡ true → is_method (kind_number kind) j ≡ true → has (pairs_of (methods_of kind) (methods_of kind)) i j ≡ true
-methods-has kind i j f h = pairs-has (methods_of kind) (methods_of kind) i j (among_methods kind i f) (among_methods kind j h)
+methods-has : (kind : Kind) (i j : ℕ) → is_method (kind_number kind) i ≡ true → is_method (kind_number kind) j ≡ true → has (pairs_of (methods_of (kind_number kind)) (methods_of (kind_number kind))) i j ≡ true
+methods-has kind i j f h = pairs-has (methods_of (kind_number kind)) (methods_of (kind_number kind)) i j (among_methods kind i f) (among_methods kind j h)
 
 read_rows : Kind → Rows → RowMap
-read_rows kind rows = with_rows rows finite.empty (pairs_of (methods_of kind) (methods_of kind))
+read_rows kind rows = with_rows rows finite.empty (pairs_of (methods_of (kind_number kind)) (methods_of (kind_number kind)))
 
 missing : (b : Bool) → b ≡ true → b ≡ false → ⊥
 missing b t f = cc
@@ -256,7 +256,7 @@ missing b t f = cc
 rows_same : (kind : Kind) (rows : Rows) → IsPrintableTable kind rows → (i j : ℕ) → row_of (read_rows kind rows) i j ≡ rows i j
 unfolding read_rows
 rows_same kind rows h i j =
-    let pairs = pairs_of (methods_of kind) (methods_of kind) in
+    let pairs = pairs_of (methods_of (kind_number kind)) (methods_of (kind_number kind)) in
     with_rows-row rows pairs finite.empty i j
     ∙ elim (cases_bool (has pairs i j)) [ inl t ↦ rw t refl | inr f ↦ rw f (row_of-empty i j ∙ sym (h.foreign i j (λ first second. missing (has pairs i j) (methods-has kind i j first second) f))) ]
 
@@ -277,20 +277,20 @@ kind_is Points = refl
 kind_is Domains = refl
 
 table_lines : (kind : Kind) (rows : Rows) → IsPrintableTable kind rows
-    → lines_of (table_text kind rows) ≡ (codes "type " ++ kind_text kind) ∷ map (row_text rows) (pairs_of (methods_of kind) (methods_of kind))
+    → lines_of (table_text kind rows) ≡ (codes "type " ++ kind_text kind) ∷ map (row_text rows) (pairs_of (methods_of (kind_number kind)) (methods_of (kind_number kind)))
 table_lines kind rows h =
     type_then kind _
     ∙ ap (λ lines. (codes "type " ++ kind_text kind) ∷ lines)
-    (rows_lines rows (methods_of kind) (λ i j. condition_clean kind (rows i j) ((h.each i j).terms)) (words_clean kind (methods_of kind) (methods-IsPrinted kind)))
+    (rows_lines rows (methods_of (kind_number kind)) (λ i j. condition_clean kind (rows i j) ((h.each i j).terms)) (words_clean kind (methods_of (kind_number kind)) (methods-IsPrinted kind)))
 
 table_read : (kind : Kind) (rows : Rows) → IsPrintableTable kind rows → (wanted : List Kind) → Contains wanted kind
-    → AreRead wanted Untyped ((codes "type " ++ kind_text kind) ∷ map (row_text rows) (pairs_of (methods_of kind) (methods_of kind))) (Typed kind (read_rows kind rows))
+    → AreRead wanted Untyped ((codes "type " ++ kind_text kind) ∷ map (row_text rows) (pairs_of (methods_of (kind_number kind)) (methods_of (kind_number kind)))) (Typed kind (read_rows kind rows))
 unfolding read_rows
 table_read kind rows h wanted wants =
-    let pairs = pairs_of (methods_of kind) (methods_of kind) in (
+    let pairs = pairs_of (methods_of (kind_number kind)) (methods_of (kind_number kind)) in (
       Typed kind finite.empty,
       type_read refl (type_is kind) (record { named = kind_is kind; wants = wants }),
-      rows_read wanted kind rows h.each pairs (pairs-ArePrinted kind (methods_of kind) (methods_of kind) (methods-IsPrinted kind) (methods-IsPrinted kind)) (pairs-are_apart kind) finite.empty (empty-IsNew pairs),
+      rows_read wanted kind rows h.each pairs (pairs-ArePrinted kind (methods_of (kind_number kind)) (methods_of (kind_number kind)) (methods-IsPrinted kind) (methods-IsPrinted kind)) (pairs-are_apart kind) finite.empty (empty-IsNew pairs),
     )
 
 -- a printed table is the text of a table with its rows

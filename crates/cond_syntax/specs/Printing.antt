@@ -1,7 +1,7 @@
 -- How conditions and tables are printed.
-use Rattle.std.specs.Prelude.{ℕ, nat_le, Bool, true, false, ◌==◌, if◌then◌else◌, List, [], ◌∷◌, ◌++◌, codes, length}
+use Rattle.std.specs.Prelude.{ℕ, nat_le, Bool, true, false, ◌==◌, if◌then◌else◌, List, [], ◌∷◌, ◌++◌, codes}
 use Rattle.std.specs.Fmt.{signed_decimal}
-use Rattle.std.specs.List.{flat_map, range_with_len}
+use Rattle.std.specs.List.{flat_map}
 use Rattle.gx_base.specs.declared.kinds.Kind.{Kind}
 use Rattle.gx_base.specs.declared.conditions.Side.{Side}
 use Rattle.gx_base.specs.declared.conditions.Side.TheVariants.{First, Second}
@@ -11,7 +11,7 @@ use Rattle.gx_base.specs.declared.conditions.Term.{Term}
 use Rattle.gx_base.specs.declared.conditions.Term.TheVariants.{Const, Value, Beyond, State}
 use Rattle.gx_base.specs.Conditions.{Condition, True, False, Eq, Ne, Lt, Le, And, Or, Not}
 use Rattle.gx_base.specs.Kinds.{kind_number}
-use Rattle.gx_base.specs.Methods.{first_method, words_of, word_of}
+use Rattle.gx_base.specs.Methods.{methods_of, word_of}
 use Rattle.gx_base.specs.Tables.{Rows}
 use Rattle.cond_syntax.specs.TableTexts.{kind_text}
 
@@ -75,21 +75,17 @@ condition_text (And x y) = grouped (is_or x) (condition_text x) ++ codes " and "
 condition_text (Or x y) = condition_text x ++ codes " or " ++ grouped (is_or y) (condition_text y)
 condition_text (Not x) = codes "not " ++ grouped (is_and_or_or x) (condition_text x)
 
--- the methods of a kind, by rising number
-abbrev pub methods_of : Kind → List ℕ
-methods_of kind = range_with_len (first_method (kind_number kind)) (length (words_of (kind_number kind)))
-
 -- the line of a pair of methods
 abbrev pub row_line : Rows → ℕ → ℕ → List ℕ
 row_line rows first second = word_of first ++ codes " " ++ word_of second ++ codes " : " ++ condition_text (rows first second) ++ codes "\n"
 
 -- the lines of the rows with this method first
 abbrev pub first_lines : Kind → Rows → ℕ → List ℕ
-first_lines kind rows first = flat_map (row_line rows first) (methods_of kind)
+first_lines kind rows first = flat_map (row_line rows first) (methods_of (kind_number kind))
 
 abbrev pub type_text : Kind → List ℕ
 type_text kind = codes "type " ++ kind_text kind ++ codes "\n"
 
 -- the `type` line, and a line for each pair of methods of the kind, by their numbers
 abbrev pub table_text : Kind → Rows → List ℕ
-table_text kind rows = type_text kind ++ flat_map (first_lines kind rows) (methods_of kind)
+table_text kind rows = type_text kind ++ flat_map (first_lines kind rows) (methods_of (kind_number kind))

@@ -6,8 +6,7 @@ use Rattle.std.proofs.lemmas.Bool.{ltb-true, ltb-false}
 use Rattle.gx_base.specs.declared.kinds.Kind.{Kind}
 use Rattle.gx_base.specs.declared.kinds.Kind.TheVariants.{Set, Cells, Flow, Points, Domains}
 use Rattle.gx_base.specs.Kinds.{kind_number}
-use Rattle.gx_base.specs.Methods.{first_method, words_of, method_at}
-use Rattle.cond_syntax.specs.Printing.{methods_of}
+use Rattle.gx_base.specs.Methods.{first_method, words_of, methods_of, method_at}
 
 few_methods : (kind : Kind) → length (words_of (kind_number kind)) ≤ 6
 few_methods Set = omega arith
@@ -55,13 +54,13 @@ drop_range_end a (suc n) zero h = absurd (omega arith)
 drop_range_end a (suc n) (suc place) h = drop_range_end (a + 1) n place (omega arith)
 
 -- the methods from a place on begin with the one there
-pub methods_from : (kind : Kind) (place method : ℕ) → method_at (kind_number kind) place ≡ Some method → drop place (methods_of kind) ≡ method ∷ drop (place + 1) (methods_of kind)
+pub methods_from : (kind : Kind) (place method : ℕ) → method_at (kind_number kind) place ≡ Some method → drop place (methods_of (kind_number kind)) ≡ method ∷ drop (place + 1) (methods_of (kind_number kind))
 methods_from kind place method e =
     let at : IsAt (kind_number kind) place method = method_here (kind_number kind) place method e in
     drop_range (first_method (kind_number kind)) (length (words_of (kind_number kind))) place at.within
-    ∙ ap (λ x. x ∷ drop (place + 1) (methods_of kind)) (sym at.number)
+    ∙ ap (λ x. x ∷ drop (place + 1) (methods_of (kind_number kind))) (sym at.number)
 
-pub methods_end : (kind : Kind) (place : ℕ) → method_at (kind_number kind) place ≡ None → drop place (methods_of kind) ≡ []
+pub methods_end : (kind : Kind) (place : ℕ) → method_at (kind_number kind) place ≡ None → drop place (methods_of (kind_number kind)) ≡ []
 methods_end kind place e = drop_range_end (first_method (kind_number kind)) (length (words_of (kind_number kind))) place (no_more (kind_number kind) place e)
 
 -- a place with a method is below 6

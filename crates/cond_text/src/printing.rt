@@ -5,12 +5,14 @@ ghost use Rattle.std.specs.Prelude.{◌≡◌, ◌<◌, ◌++◌, IfOk, OnOk, Li
 ghost use Rattle.std.specs.List.{flat_map};
 ghost use Rattle.gx_base.specs.declared.kinds.Kind.{Kind};
 ghost use Rattle.gx_base.specs.Conditions.{condition_of};
+ghost use Rattle.gx_base.specs.Kinds.{kind_number};
 ghost use Rattle.gx_base.specs.Methods as methods;
+ghost use Rattle.gx_base.specs.Methods.{methods_of};
 ghost use Rattle.gx_base.specs.TableRows.{row_of};
 ghost use Rattle.cond_syntax.specs.Tokens.{tokens_of};
 ghost use Rattle.cond_syntax.specs.TableTexts.{Spells};
 ghost use Rattle.cond_syntax.specs.Printing as printing;
-ghost use Rattle.cond_syntax.specs.Printing.{condition_text, term_text, part_text, grouped, row_line, first_lines, methods_of, type_text, table_text};
+ghost use Rattle.cond_syntax.specs.Printing.{condition_text, term_text, part_text, grouped, row_line, first_lines, type_text, table_text};
 ghost use Rattle.cond_syntax.specs.Printable.{IsPrintable, IsPrintableTable, IsReadBack};
 
 use crate::words::kind_word;
@@ -49,7 +51,7 @@ fn put_type_line(text: &mut String, kind: Kind) -> Result<(), AllocError>
 
 #[tactic(auto, using(crate::proofs::MethodPlaces::methods_end, crate::proofs::MethodPlaces::place_below, crate::proofs::PrintedRows::all_pieces))]
 fn put_rows(text: &mut String, kind: Kind, table: &Table) -> Result<(), AllocError>
-    ensures { OnOk result (string_bytes text.new ≡ string_bytes text.old ++ flat_map (first_lines kind (row_of table.now)) (methods_of kind)) }
+    ensures { OnOk result (string_bytes text.new ≡ string_bytes text.old ++ flat_map (first_lines kind (row_of table.now)) (methods_of (kind_number kind))) }
 {
     let mut place = 0;
     while let Some(first) = method_at(kind, place) {

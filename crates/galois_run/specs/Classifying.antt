@@ -4,12 +4,13 @@ use Rattle.std.specs.List.{flat_map}
 use Rattle.gx_base.specs.declared.kinds.Kind.{Kind}
 use Rattle.gx_base.specs.declared.kinds.Kind.TheVariants.{Set, Cells, Flow, Points, Domains}
 use Rattle.gx_base.specs.Conditions.{Condition}
-use Rattle.gx_base.specs.Methods.{word_of}
+use Rattle.gx_base.specs.Kinds.{kind_number}
+use Rattle.gx_base.specs.Methods.{methods_of, word_of}
 use Rattle.gx_base.specs.Tables.{Rows}
 use Rattle.cond_lattice.specs.declared.grades.Grade.{Grade}
 use Rattle.cond_lattice.specs.declared.grades.Grade.TheVariants.{Simple, Online, General}
 use Rattle.cond_lattice.specs.Grades.{grade_of}
-use Rattle.cond_syntax.specs.Printing.{condition_text, methods_of}
+use Rattle.cond_syntax.specs.Printing.{condition_text}
 use Rattle.galois_run.specs.ReportLines.{line}
 
 -- a table of any kind is read
@@ -31,8 +32,8 @@ row_line rows first second = pair_line first second (rows first second)
 
 -- the lines of the rows with this method first
 abbrev pub first_lines : Kind → Rows → ℕ → List ℕ
-first_lines kind rows first = flat_map (row_line rows first) (methods_of kind)
+first_lines kind rows first = flat_map (row_line rows first) (methods_of (kind_number kind))
 
 -- a line for each pair of methods of the kind, by their numbers
 abbrev pub classify_text : Kind → Rows → List ℕ
-classify_text kind rows = flat_map (first_lines kind rows) (methods_of kind)
+classify_text kind rows = flat_map (first_lines kind rows) (methods_of (kind_number kind))

@@ -1,5 +1,5 @@
 -- The methods of each kind of object: their numbers and their words.
-use Rattle.std.specs.List.{position_from}
+use Rattle.std.specs.List.{position_from, range_with_len}
 use Rattle.std.specs.Prelude.{bytes_eq, ℕ, ◌+◌, ◌-◌, ◌&&◌, ◌==◌, Bool, nat_le, nat_lt, List, [], ◌∷◌, length, Option, Some, None, codes, slice_get, if◌then◌else◌}
 
 -- the number of a kind's first method; the others follow one after another
@@ -20,6 +20,10 @@ words_of kind =
     else if kind == 3 then codes "add" ∷ codes "remove" ∷ codes "at" ∷ codes "nearest" ∷ []
     else if kind == 4 then codes "weigh" ∷ codes "total" ∷ codes "move" ∷ codes "credit" ∷ codes "sum" ∷ []
     else []
+
+-- the methods of a kind, by rising number
+abbrev pub methods_of : ℕ → List ℕ
+methods_of kind = range_with_len (first_method kind) (length (words_of kind))
 
 -- the kind has a method of this number
 abbrev pub is_method : ℕ → ℕ → Bool

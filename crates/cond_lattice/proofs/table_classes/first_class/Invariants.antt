@@ -1,7 +1,8 @@
 use Rattle.std.proofs.Common.{◌≡◌, ◌-◌, drop, map}
 use Rattle.gx_base.specs.Kinds.{kind_number}
+use Rattle.gx_base.specs.Methods.{methods_of}
 use Rattle.gx_base.specs.TableRows.{row_of}
-use Rattle.cond_lattice.specs.Grades.{grade_of, methods_of, greater, greatest, first_grade}
+use Rattle.cond_lattice.specs.Grades.{grade_of, greater, greatest, first_grade}
 use Rattle.cond_lattice.proofs.table_classes.first_class.Given as goal
 
 -- with the rest of the methods it comes to the greatest class of all

@@ -1,13 +1,13 @@
 use Rattle.std.proofs.Common.{sym}
 use Rattle.gx_base.specs.Kinds.{kind_number}
+use Rattle.gx_base.specs.Methods.{methods_of}
 use Rattle.gx_base.specs.TableRows.{row_of}
 use Rattle.cond_lattice.proofs.MethodLemmas.{methods_from}
-use Rattle.cond_syntax.specs.Printing.{methods_of}
 use Rattle.galois_run.specs.Classifying.{first_lines}
 use Rattle.galois_run.proofs.ClassLines.{one_more_lines}
 use Rattle.galois_run.proofs.classifying.classify.Goals as goal
 
 pub loop-first-preserved : goal.loop-first-preserved
 loop-first-preserved c =
-    one_more_lines (first_lines c.args.kind (row_of c.args.table.now)) (methods_of c.args.kind) c.loop-first.place c.in-Some.first
+    one_more_lines (first_lines c.args.kind (row_of c.args.table.now)) (methods_of (kind_number c.args.kind)) c.loop-first.place c.in-Some.first
     _ _ _ (methods_from (kind_number c.args.kind) c.loop-first.place c.in-Some.first (sym c.in-Some.ensures)) c.in_ok-put_first.ensures c.loop-first.invariant
