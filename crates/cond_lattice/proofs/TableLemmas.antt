@@ -1,15 +1,15 @@
 -- Tables, row by row.
-use Rattle.std.specs.Prelude.{◌≡◌, ℕ, ◌+◌, Bool, true, false, List, ◌∷◌, drop, map, refl}
+use Rattle.std.specs.Prelude.{◌≡◌, ℕ, ◌+◌, Bool, true, false, ◌&&◌, List, ◌∷◌, drop, map, refl}
 use Rattle.std.proofs.Common.{sym, ap, ◌∙◌, subst}
 use Rattle.gx_base.specs.Conditions.{Condition, False}
 use Rattle.gx_base.specs.Methods.{is_method}
-use Rattle.gx_base.specs.Tables.{Rows}
+use Rattle.gx_base.specs.Tables.{Rows, KeepsToKind}
 use Rattle.gx_base.specs.Below.{IsBelow, AreBelow}
 use Rattle.gx_base.specs.BelowLaws.{False-IsBelow}
 use Rattle.cond_lattice.specs.declared.grades.Grade.{Grade}
 use Rattle.cond_lattice.specs.declared.grades.Grade.TheVariants.{Simple, Online, General}
 use Rattle.cond_lattice.specs.Grades.{greater, greatest}
-use Rattle.cond_lattice.specs.Tables.{AreRowsBelow, KeepsToKind}
+use Rattle.cond_lattice.specs.Tables.{AreRowsBelow}
 use Rattle.cond_lattice.proofs.Derived.{IsRowBelow-sound}
 
 greater-assoc : (g h k : Grade) → greater (greater g h) k ≡ greater g (greater h k)
@@ -40,5 +40,5 @@ rows_sound kind lower upper below keeps m n = by_cases (is_method kind m) (is_me
 
     by_cases : (known_m known_n : Bool) → is_method kind m ≡ known_m → is_method kind n ≡ known_n → IsBelow (lower m n) (upper m n)
     by_cases true true e f = IsRowBelow-sound (below m n e f)
-    by_cases true false e f = false_row (keeps m n (λ p q. let never : true ≡ false = sym q ∙ f in absurd (cc)))
-    by_cases false known_n e f = false_row (keeps m n (λ p q. let never : true ≡ false = sym p ∙ e in absurd (cc)))
+    by_cases true false e f = false_row (keeps m n (λ i. e i && f i))
+    by_cases false known_n e f = false_row (keeps m n (λ i. e i && is_method kind n))

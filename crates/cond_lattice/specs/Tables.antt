@@ -1,6 +1,6 @@
 -- When a table is below another by the rules.
 use Rattle.std.specs.Prelude.{◌≡◌, ℕ, ◌<◌, true}
-use Rattle.gx_base.specs.Conditions.{Condition, False}
+use Rattle.gx_base.specs.Conditions.{Condition}
 use Rattle.gx_base.specs.Methods.{is_method}
 use Rattle.gx_base.specs.Tables.{Rows}
 use Rattle.cond_lattice.specs.Derivations.{IsRowBelow}
@@ -22,7 +22,3 @@ pub record IsFirstNotBelow (kind : ℕ) (lower upper : Rows) (first second : ℕ
   pub not_below : IsRowBelow (lower first second) (upper first second) → ⊥
   pub earlier_first : (m n : ℕ) → is_method kind m ≡ true → is_method kind n ≡ true → m < first → IsRowBelow (lower m n) (upper m n)
   pub earlier_second : (n : ℕ) → is_method kind n ≡ true → n < second → IsRowBelow (lower first n) (upper first n)
-
--- rows of other methods than the kind's are false
-abbrev pub KeepsToKind : ℕ → Rows → Type 0
-KeepsToKind kind rows = (first second : ℕ) → (is_method kind first ≡ true → is_method kind second ≡ true → ⊥) → rows first second ≡ False

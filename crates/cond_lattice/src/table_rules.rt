@@ -3,8 +3,9 @@ ghost use Rattle.gx_base.specs.Below.{AreBelow};
 ghost use Rattle.gx_base.specs.Kinds.{kind_number};
 ghost use Rattle.gx_base.specs.Methods.{is_method};
 ghost use Rattle.gx_base.specs.TableRows.{row_of};
+ghost use Rattle.gx_base.specs.Tables.{KeepsToKind};
 ghost use Rattle.cond_lattice.specs.Derivations.{IsRowBelow};
-ghost use Rattle.cond_lattice.specs.Tables.{AreRowsBelow, IsFirstNotBelow, IsFirstSecond, KeepsToKind};
+ghost use Rattle.cond_lattice.specs.Tables.{AreRowsBelow, IsFirstNotBelow, IsFirstSecond};
 
 use crate::rules::row_below;
 use gx_base::{Kind, Table, method_at};

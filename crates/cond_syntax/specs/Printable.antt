@@ -1,13 +1,12 @@
 -- Which conditions and tables are read back from what is printed of them.
-use Rattle.std.specs.Prelude.{◌≡◌, ℕ, suc, ◌≤◌, ◌<◌, ◌^◌, max, nat_abs, true, List}
+use Rattle.std.specs.Prelude.{◌≡◌, ℕ, suc, ◌≤◌, ◌<◌, ◌^◌, max, nat_abs, List}
 use Rattle.gx_base.specs.declared.kinds.Kind.{Kind}
 use Rattle.gx_base.specs.declared.kinds.Kind.TheVariants.{Domains}
 use Rattle.gx_base.specs.declared.conditions.Term.{Term}
 use Rattle.gx_base.specs.declared.conditions.Term.TheVariants.{Const, Value, Beyond, State}
 use Rattle.gx_base.specs.Conditions.{Condition, True, False, Eq, Ne, Lt, Le, And, Or, Not}
 use Rattle.gx_base.specs.Kinds.{kind_number}
-use Rattle.gx_base.specs.Methods.{is_method}
-use Rattle.gx_base.specs.Tables.{Rows}
+use Rattle.gx_base.specs.Tables.{Rows, KeepsToKind}
 use Rattle.gx_base.specs.TableRows.{RowMap, row_of}
 use Rattle.cond_syntax.specs.TableTexts.{most_deep, IsTableText}
 
@@ -51,7 +50,7 @@ pub record IsPrintable (kind : Kind) (condition : Condition) : Type 0 where
 -- method isn't one of the kind's is false
 pub record IsPrintableTable (kind : Kind) (rows : Rows) : Type 0 where
   pub each : (first second : ℕ) → IsPrintable kind (rows first second)
-  pub foreign : (first second : ℕ) → (is_method (kind_number kind) first ≡ true → is_method (kind_number kind) second ≡ true → ⊥) → rows first second ≡ False
+  pub keeps_to_kind : KeepsToKind (kind_number kind) rows
 
 -- the bytes are the text of a table of this kind with these rows
 pub record IsReadBack (wanted : List Kind) (bytes : List ℕ) (kind : Kind) (rows : Rows) : Type 0 where

@@ -250,15 +250,22 @@ methods-has kind i j f h = pairs-has (methods_of (kind_number kind)) (methods_of
 read_rows : Kind → Rows → RowMap
 read_rows kind rows = with_rows rows finite.empty (pairs_of (methods_of (kind_number kind)) (methods_of (kind_number kind)))
 
-missing : (b : Bool) → b ≡ true → b ≡ false → ⊥
-missing b t f = cc
+-- a pair that is none of those of the kind's methods has a method of another kind
+not_both : (kind : Kind) (i j : ℕ) → has (pairs_of (methods_of (kind_number kind)) (methods_of (kind_number kind))) i j ≡ false → (is_method (kind_number kind) i && is_method (kind_number kind) j) ≡ false
+not_both kind i j f = elim (cases_bool (is_method (kind_number kind) i && is_method (kind_number kind) j)) [
+  | inl t ↦
+      let parts : (is_method (kind_number kind) i ≡ true) × (is_method (kind_number kind) j ≡ true) = both (is_method (kind_number kind) i) (is_method (kind_number kind) j) t in
+      let among = methods-has kind i j parts.0 parts.1 in
+      absurd (cc)
+  | inr n ↦ n
+]
 
 rows_same : (kind : Kind) (rows : Rows) → IsPrintableTable kind rows → (i j : ℕ) → row_of (read_rows kind rows) i j ≡ rows i j
 unfolding read_rows
 rows_same kind rows h i j =
     let pairs = pairs_of (methods_of (kind_number kind)) (methods_of (kind_number kind)) in
     with_rows-row rows pairs finite.empty i j
-    ∙ elim (cases_bool (has pairs i j)) [ inl t ↦ rw t refl | inr f ↦ rw f (row_of-empty i j ∙ sym (h.foreign i j (λ first second. missing (has pairs i j) (methods-has kind i j first second) f))) ]
+    ∙ elim (cases_bool (has pairs i j)) [ inl t ↦ rw t refl | inr f ↦ rw f (row_of-empty i j ∙ sym (h.keeps_to_kind i j (not_both kind i j f))) ]
 
 -- ---- the law
 

@@ -9,12 +9,11 @@ use Rattle.gx_base.specs.declared.conditions.Term.TheVariants.{Const, Value, Bey
 use Rattle.gx_base.specs.Conditions.{Condition, True, False, Eq, Ne, Lt, Le, And, Or, Not}
 use Rattle.gx_base.specs.Below.{names_state, term_names}
 use Rattle.gx_base.specs.Methods.{first_method, words_of, is_method}
-use Rattle.gx_base.specs.Tables.{Rows}
+use Rattle.gx_base.specs.Tables.{Rows, KeepsToKind}
 use Rattle.cond_lattice.specs.declared.grades.Grade.{Grade}
 use Rattle.cond_lattice.specs.declared.grades.Grade.TheVariants.{Simple, Online, General}
 use Rattle.cond_lattice.specs.Grades.{are_across, is_conjunction, is_simple, grade_of, greater, greatest, first_grade, table_grade}
 use Rattle.gate_core.specs.Scans.{SeesFirstAlone}
-use Rattle.gate_core.specs.Views.{KeepsToKind}
 use Rattle.gate_core.proofs.EntryLists.{both_true}
 
 across_blind : (x y : Term) → are_across x y ≡ true → (term_names Second x || term_names Second y) ≡ false

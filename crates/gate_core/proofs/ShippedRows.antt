@@ -17,8 +17,7 @@ use Rattle.gx_base.specs.PreciseTables.{set_row, use_row, point_row, domain_row}
 use Rattle.gx_base.specs.ShippedTables.{simple_set, use_by, simple_deeds, rw_deeds, simple_point, rw_point, simple_domain, rw_domain, shipped_rows, rows_shipped, IsShipped}
 use Rattle.gx_base.specs.ShippedLaws.{shipped_rows-IsValid, false_rows-IsValid}
 use Rattle.gx_base.specs.TableRows.{RowMap, row_of}
-use Rattle.gx_base.specs.Tables.{Rows, IsValid}
-use Rattle.gate_core.specs.Views.{KeepsToKind}
+use Rattle.gx_base.specs.Tables.{Rows, KeepsToKind, IsValid}
 
 -- a row is false where either deed is none
 record NoneIsFalse {D : Type 0} (none : D) (row : D → D → Condition) : Type 0 where

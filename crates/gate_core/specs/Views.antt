@@ -1,16 +1,14 @@
 -- What contracts see of a gate, when it is lawful, and what its calls make of it.
-use Rattle.std.specs.Prelude.{◌≡◌, ℕ, zero, suc, ◌+◌, false, ◌&&◌, if◌then◌else◌, Option, Some, None, List, [], ◌∷◌, ◌++◌, refl}
+use Rattle.std.specs.Prelude.{◌≡◌, ℕ, zero, suc, ◌+◌, if◌then◌else◌, Option, Some, None, List, [], ◌∷◌, ◌++◌, refl}
 use Rattle.std.specs.Coded.{Coded, code_by, coded×, coded_ℕ, coded_list}
 use Rattle.gx_base.specs.declared.calls.Call.{Call}
 use Rattle.gx_base.specs.declared.items.Item.{Item}
 use Rattle.gx_base.specs.declared.acts.Entry.{Entry}
 use Rattle.gx_base.specs.contracts.acts.Entry as entry
-use Rattle.gx_base.specs.Conditions.{False}
-use Rattle.gx_base.specs.Methods.{is_method}
 use Rattle.gx_base.specs.States.{State, state_code}
 use Rattle.gx_base.specs.Steps.{next_state, reply_to, inverse, observed}
 use Rattle.gx_base.specs.TableRows.{RowMap, row_map_code, row_of}
-use Rattle.gx_base.specs.Tables.{Rows, IsValid}
+use Rattle.gx_base.specs.Tables.{Rows, KeepsToKind, IsValid}
 use Rattle.gate_core.specs.Entries.{Each, entries_of, others_than, has_entry, last_of, without_last, done_under, mark_of, NumbersRise}
 use Rattle.gate_core.specs.Replays.{Legal, start_of, AllCalls, PairsFit, AllSawRight, first_failing, Stands}
 
@@ -41,10 +39,6 @@ live_start g = start_of g.state g.live
 
 abbrev pub start : GateView → State
 start g = start_of (live_start g) g.done
-
--- each row of a pair of methods that aren't both the kind's is `False`
-abbrev pub KeepsToKind : ℕ → Rows → Type 0
-KeepsToKind kind rows = (first second : ℕ) → (is_method kind first && is_method kind second) ≡ false → rows first second ≡ False
 
 -- a lawful gate. The arrangement is the done entries and then the live ones
 pub record IsLawfulGate (g : GateView) : Type 0 where

@@ -1,12 +1,13 @@
 ghost use Rattle.std.specs.Prelude.{◌≡◌, ◌↔◌, ◌+◌, ◌<◌, ◌≤◌, ◌++◌, ◌∷◌, [], ℕ, List, Some, None, IfOk, OnOk, OnErr, IsTrue, length, slice_get, vec_len, vec_capacity};
 ghost use Rattle.gx_base.specs.Steps.{next_state, IsCall};
 ghost use Rattle.gx_base.specs.TableRows.{RowMap, row_of};
+ghost use Rattle.gx_base.specs.Tables.{KeepsToKind};
 ghost use Rattle.gx_base.specs.declared.calls.Call.{Call};
 ghost use Rattle.gx_base.specs.declared.calls.Made.{Made};
 ghost use Rattle.gx_base.specs.declared.acts.Entry.{Entry};
 ghost use Rattle.gate_core.specs.Entries.{made_of, others_than};
 ghost use Rattle.gate_core.specs.Replays.{start_of, LeadTo};
-ghost use Rattle.gate_core.specs.Views.{asked_entry, KeepsToKind};
+ghost use Rattle.gate_core.specs.Views.{asked_entry};
 ghost use Rattle.gate_core.specs.CallAnswers.{AllRoomed, TellsOf};
 
 use crate::entries::{append_done, is_entry_of, keep_others, last_place};
@@ -48,9 +49,9 @@ impl<T: SeqType, S: Screen<T>> Gate<T, S> {
     ghost use Rattle.std.specs.Prelude.{◌≡◌, ◌^◌, ◌-◌, ◌<◌, ◌≤◌, [], ℕ, IfOk, IfErr};
     ghost use Rattle.gx_base.specs.Kinds.{kind_number};
     ghost use Rattle.gx_base.specs.TableRows.{row_of};
-    ghost use Rattle.gx_base.specs.Tables.{IsValid};
+    ghost use Rattle.gx_base.specs.Tables.{KeepsToKind, IsValid};
     ghost use Rattle.gate_core.specs.Entries.{last_of};
-    ghost use Rattle.gate_core.specs.Views.{GateView, IsLawfulGate, KeepsToKind, undo_last, release};
+    ghost use Rattle.gate_core.specs.Views.{GateView, IsLawfulGate, undo_last, release};
     ghost use Rattle.gate_core.specs.CallAnswers.{IsAdmitted, RefusalFits, call_of};
 
     /// A gate with no entries.

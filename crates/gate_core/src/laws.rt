@@ -12,11 +12,11 @@ ghost use Rattle.gx_base.specs.ShippedTables.{IsShipped};
 ghost use Rattle.gx_base.specs.States.{State};
 ghost use Rattle.gx_base.specs.Steps.{next_state, reply_to, IsCall};
 ghost use Rattle.gx_base.specs.TableRows.{RowMap, row_of};
-ghost use Rattle.gx_base.specs.Tables.{Rows, IsValid};
+ghost use Rattle.gx_base.specs.Tables.{Rows, KeepsToKind, IsValid};
 ghost use Rattle.gate_core.specs.Entries.{Each, same_iteration, entries_of, others_than, entries_by};
 ghost use Rattle.gate_core.specs.Replays.{after, Legal, pair_ok, Stands};
 ghost use Rattle.gate_core.specs.Swaps.{Swapped};
-ghost use Rattle.gate_core.specs.Views.{GateView, IsLawfulGate, KeepsToKind, live_start, start, asked_entry, in_way, admit, undo_last, undo_times, release};
+ghost use Rattle.gate_core.specs.Views.{GateView, IsLawfulGate, live_start, start, asked_entry, in_way, admit, undo_last, undo_times, release};
 
 use crate::gates::Gate;
 use crate::screens::Screen;

@@ -4,9 +4,9 @@ ghost use Rattle.gx_base.specs.declared.calls.Made.{Made};
 ghost use Rattle.gx_base.specs.declared.acts.Entry.{Entry};
 ghost use Rattle.gx_base.specs.Kinds.{kind_number};
 ghost use Rattle.gx_base.specs.TableRows.{RowMap, row_of};
+ghost use Rattle.gx_base.specs.Tables.{KeepsToKind};
 ghost use Rattle.gate_core.specs.Entries.{LosesLast};
 ghost use Rattle.gate_core.specs.Replays.{start_of, LeadTo, IsFirstFailing};
-ghost use Rattle.gate_core.specs.Views.{KeepsToKind};
 ghost use Rattle.gate_core.specs.CallAnswers.{AllRoomed};
 
 use gx_base::{Entry, Kind, NoMemory, Seen, SeqType, Table};

@@ -2,8 +2,7 @@
 ghost use Rattle.std.specs.Prelude.{◌≡◌};
 ghost use Rattle.gx_base.specs.Kinds.{kind_number};
 ghost use Rattle.gx_base.specs.TableRows.{row_of};
-ghost use Rattle.gx_base.specs.Tables.{IsValid};
-ghost use Rattle.gate_core.specs.Views.{KeepsToKind};
+ghost use Rattle.gx_base.specs.Tables.{KeepsToKind, IsValid};
 
 use crate::laws::shipped_tables_serve_gates;
 use crate::{Entry, Gate, GateRefuse, ScanScreen, Screen, Told};

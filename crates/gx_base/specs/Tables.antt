@@ -1,11 +1,12 @@
 -- What tables of conditions mean, and which are valid.
-use Rattle.std.specs.Prelude.{◌≡◌, ℕ, ℤ, Bool, true, false, ◌||◌}
+use Rattle.std.specs.Prelude.{◌≡◌, ℕ, ℤ, Bool, true, false, ◌&&◌, ◌||◌}
 use Rattle.gx_base.specs.declared.calls.Call.{Call}
 use Rattle.gx_base.specs.declared.calls.Made.{Made}
 use Rattle.gx_base.specs.declared.calls.Seen.{Seen}
 use Rattle.gx_base.specs.declared.conditions.Term.{Term}
 use Rattle.gx_base.specs.declared.conditions.Term.TheVariants.{State as StateTerm}
 use Rattle.gx_base.specs.Conditions.{Condition, True, False, Eq, Ne, Lt, Le, And, Or, Not, holds}
+use Rattle.gx_base.specs.Methods.{is_method}
 use Rattle.gx_base.specs.States.{State}
 use Rattle.gx_base.specs.Steps.{next_state, reply_to, inverse, observed, IsState}
 use Rattle.gx_base.specs.Meanings.{IsCall}
@@ -13,6 +14,10 @@ use Rattle.gx_base.specs.Meanings.{IsCall}
 -- the condition of each pair of methods, of which the first ran first
 abbrev pub Rows : Type 0
 Rows = ℕ → ℕ → Condition
+
+-- each row of a pair of methods that aren't both the kind's is false
+abbrev pub KeepsToKind : ℕ → Rows → Type 0
+KeepsToKind kind rows = (first second : ℕ) → (is_method kind first && is_method kind second) ≡ false → rows first second ≡ False
 
 -- the call with the reply that it gets in s
 abbrev pub made_in : State → Call → Made
