@@ -4,5 +4,4 @@ pub mod RowLemmas
 pub mod Standing
 pub mod Implied
 pub mod Bounds
-pub mod MethodLemmas
 pub mod TableLemmas

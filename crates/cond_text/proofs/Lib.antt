@@ -3,7 +3,6 @@ pub mod DraftLaws
 pub mod LevelLaws
 pub mod LineSteps
 pub mod MethodNames
-pub mod MethodPlaces
 pub mod OneAnswer
 pub mod PairLaws
 pub mod PieceLaws

@@ -2,8 +2,8 @@ use Rattle.std.proofs.Common.{◌≡◌, ℕ, true, sym}
 use Rattle.gx_base.specs.Kinds.{kind_number}
 use Rattle.gx_base.specs.Methods.{is_method}
 use Rattle.gx_base.specs.TableRows.{row_of}
+use Rattle.gx_base.proofs.MethodPlaces.{one_more, all_methods}
 use Rattle.cond_lattice.specs.Derivations.{IsRowBelow}
-use Rattle.cond_lattice.proofs.MethodLemmas.{one_more, all_methods}
 use Rattle.cond_lattice.proofs.TableLemmas.{rows_sound}
 use Rattle.cond_lattice.proofs.table_rules.below.Goals as goal
 
