@@ -1,12 +1,11 @@
 //! Conditions that are read, as long as they can be answered.
 
 ghost use Rattle.std.specs.Prelude.{◌≡◌, ◌≤◌, ◌+◌, ℕ, min, max, MatchOption, IfOk};
-ghost use Rattle.gx_base.specs.Conditions.{condition_of};
 ghost use Rattle.cond_syntax.specs.Written.{Written, And, Or, Not};
 ghost use Rattle.cond_text.specs.Drafts as drafts;
 ghost use Rattle.cond_text.specs.Drafts.{IsDraft};
 
-use gx_base::{Cond, NoMemory};
+use gx_base::{Cond, NoMemory, boxed};
 use std::alloc::Global;
 
 /// How deep a condition may be.
@@ -19,15 +18,6 @@ pub(crate) enum Draft {
     Lost,
     /// The condition, and how deep it is.
     Kept(Cond, u32),
-}
-
-fn boxed(alloc: Global, cond: Cond) -> Result<Box<Cond>, NoMemory>
-    ensures { IfOk result (λ held. condition_of held.value ≡ condition_of cond) }
-{
-    match Box::new(alloc, cond) {
-        Ok(held) => Ok(held),
-        Err(_) => Err(NoMemory),
-    }
 }
 
 /// A draft's `not`.

@@ -148,7 +148,8 @@ impl Cond {
     }
 }
 
-fn boxed(alloc: Global, cond: Cond) -> Result<Box<Cond>, NoMemory>
+/// The condition in a box.
+pub fn boxed(alloc: Global, cond: Cond) -> Result<Box<Cond>, NoMemory>
     ensures { IfOk result (λ held. condition_of held.value ≡ condition_of cond) }
 {
     match Box::new(alloc, cond) {

@@ -22,7 +22,7 @@ mod tests;
 
 pub use acts::{Act, Entry, Step};
 pub use calls::{Call, Made, Reply, Room, Seen, Spot};
-pub use conditions::{Cond, Part, Side, Term, eval};
+pub use conditions::{Cond, Part, Side, Term, boxed, eval};
 pub use inputs::{InputFault, What};
 pub use items::Item;
 pub use kinds::{Choice, Kind, method_at, method_of, word_of};
