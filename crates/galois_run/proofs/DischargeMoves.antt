@@ -1,7 +1,6 @@
 -- How a body moves from place to place.
-use Rattle.std.proofs.Common.{◌≡◌, ℕ, suc, ◌+◌, ◌*◌, ◌-◌, ◌%◌, ◌<◌, ◌≤◌, ℤ, pos, negsuc, Bool, true, false, if◌then◌else◌, int_le, Option, Some, None, List, [], ◌∷◌, length, drop, get_or, slice_get, unsigned_abs, add-one, ⊎_elim, refl, sym, ap, ◌∙◌, subst, arith}
-use Rattle.std.specs.Int.{w64, int_min, int_rem_euclid, int_wrapping_add, int_wrapping_sub}
-use Rattle.std.specs.Ordering.{int_eq}
+use Rattle.std.proofs.Common.{◌≡◌, ℕ, ◌+◌, ◌<◌, ◌≤◌, ℤ, pos, negsuc, Bool, true, false, if◌then◌else◌, int_le, Option, Some, None, List, [], ◌∷◌, length, drop, get_or, slice_get, add-one, ⊎_elim, refl, sym, ap, ◌∙◌, subst, arith}
+use Rattle.std.specs.Int.{w64, int_min, int_wrapping_add, int_wrapping_sub}
 use Rattle.std.proofs.Math.Nat.{mod-lt}
 use Rattle.std.proofs.Math.Seq.{drop-cons}
 use Rattle.std.proofs.lemmas.List.{drop_all}
@@ -10,15 +9,15 @@ use Rattle.gx_base.specs.declared.calls.Call.{Call as CallOf}
 use Rattle.gx_base.specs.declared.calls.Reply.{Reply}
 use Rattle.gx_base.specs.declared.acts.Act.{Act}
 use Rattle.gx_base.specs.declared.acts.Act.TheVariants as acts
-use Rattle.gx_base.specs.Plans.{Plan, Call, Push, Done, IsInRoom, FallsUnlessDone}
+use Rattle.gx_base.specs.Plans.{Plan, Call, Done, IsInRoom, FallsUnlessDone}
 use Rattle.galois_run.specs.declared.preflow_push.touches.Touch.{Touch}
 use Rattle.galois_run.specs.declared.preflow_push.places.Walk.{Walk}
 use Rattle.galois_run.specs.declared.preflow_push.places.Place.{Place}
 use Rattle.galois_run.specs.declared.preflow_push.places.Place.TheVariants as places
 use Rattle.galois_run.specs.declared.preflow_push.discharge.Discharge.{Discharge}
 use Rattle.galois_run.specs.FlowCalls.{room_of, call_of, relabel, flow, height, send}
-use Rattle.galois_run.specs.Discharge.{rise, along, node_item, residual, lesser, with_flow, with_height, sending, sent_along, is_just_above, after_gains, push_unless, unless_spent, is_terminal}
-use Rattle.galois_run.specs.Places.{arcs_left, acts_over}
+use Rattle.galois_run.specs.Discharge.{rise, along, residual, lesser, with_flow, with_height, sending, sent_along, is_just_above, after_gains, push_unless, unless_spent, is_terminal}
+use Rattle.galois_run.specs.Places.{acts_over}
 use Rattle.galois_run.specs.Discharges.{Moves, ends_of, lists_of, rest_of, acts_of, onward_of, acts_onward}
 
 pub room_of-lt : (n : ℤ) → room_of n < 16

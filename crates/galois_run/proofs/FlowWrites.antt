@@ -1,6 +1,6 @@
 -- What calls on shards do to the states of rooms.
-use Rattle.std.specs.Prelude.{◌≡◌, ℕ, zero, suc, ◌+◌, ◌<◌, ◌%◌, ◌^◌, ℤ, pos, Bool, true, false, nat_eq, if◌then◌else◌, List, [], ◌∷◌, ◌++◌, length, map, replicate, slice_index_or, slice_set, FitsSigned, refl}
-use Rattle.std.proofs.Common.{sym, ◌∙◌, ap, subst, arith, eqb-true}
+use Rattle.std.specs.Prelude.{◌≡◌, ℕ, zero, suc, ◌+◌, ◌<◌, ◌%◌, ◌^◌, ℤ, pos, Bool, true, false, nat_eq, if◌then◌else◌, List, [], ◌∷◌, length, map, replicate, slice_index_or, slice_set, FitsSigned, refl}
+use Rattle.std.proofs.Common.{sym, ◌∙◌, ap, arith, eqb-true}
 use Rattle.std.proofs.lemmas.Int.{to_z-of_z}
 use Rattle.std.proofs.Math.Nat.{mod-eq_of_lt}
 use Rattle.std.specs.Int.{w64, cast_signed, cast_unsigned, int_wrapping_add}
@@ -12,7 +12,7 @@ use Rattle.gx_base.specs.Steps.{next_state, meaning_of}
 use Rattle.gx_base.specs.Deeds.{use_of, next_by}
 use Rattle.gx_base.specs.Wrapping.{below_bits}
 use Rattle.gx_base.specs.Registers.{same_row, same_row-sort, number_at-other}
-use Rattle.gx_base.specs.Replays.{in_rooms, no_state, put}
+use Rattle.gx_base.specs.Replays.{in_rooms, put}
 use Rattle.flow_graph.specs.declared.shard.FlowShard.{FlowShard}
 use Rattle.flow_graph.specs.FlowState.{state_of}
 use Rattle.galois_run.specs.declared.preflow_push.network.Arc.{Arc}

@@ -1,5 +1,5 @@
 -- What is done for a node: its excess is pushed along its arcs to lower nodes, and where some is left the node rises.
-use Rattle.std.specs.Prelude.{ℤ, pos, ◌&&◌, ◌||◌, not, Bool, true, false, Option, Some, None, List, [], ◌∷◌, if◌then◌else◌, int_le}
+use Rattle.std.specs.Prelude.{ℤ, pos, ◌&&◌, ◌||◌, Bool, true, false, Option, Some, None, List, [], ◌∷◌, if◌then◌else◌, int_le}
 use Rattle.std.specs.Ordering.{int_eq}
 use Rattle.std.specs.Int.{w64, int_min, int_wrapping_add, int_wrapping_sub}
 use Rattle.gx_base.specs.declared.items.Item.{Item}

@@ -1,5 +1,5 @@
 -- What a `Discharge` does, and how a body goes on from a place.
-use Rattle.std.specs.Prelude.{◌≡◌, ℕ, ℤ, Option, List, length, if◌then◌else◌}
+use Rattle.std.specs.Prelude.{ℕ, Option, List, length, if◌then◌else◌}
 use Rattle.gx_base.specs.declared.calls.Reply.{Reply}
 use Rattle.gx_base.specs.declared.items.Item.{Item}
 use Rattle.gx_base.specs.declared.acts.Act.{Act}

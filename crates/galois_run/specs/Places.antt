@@ -1,16 +1,13 @@
 -- What a body that stands at a place has still to do.
-use Rattle.std.specs.Prelude.{ℕ, ◌+◌, ◌*◌, ◌-◌, ℤ, pos, Option, Some, None, List, [], ◌∷◌, length, drop, slice_index_or, slice_get}
-use Rattle.std.specs.Int.{w64, int_wrapping_sub}
-use Rattle.std.specs.Ordering.{int_eq}
+use Rattle.std.specs.Prelude.{ℕ, ◌+◌, ◌*◌, ℤ, pos, Option, Some, None, List, length, drop}
 use Rattle.gx_base.specs.declared.calls.Reply.{Reply}
-use Rattle.gx_base.specs.declared.items.Item.{Item}
-use Rattle.gx_base.specs.Plans.{Plan, Call, Push, Done, Operator}
+use Rattle.gx_base.specs.Plans.{Plan, Call, Push, Done}
 use Rattle.galois_run.specs.declared.preflow_push.touches.Touch.{Touch}
 use Rattle.galois_run.specs.declared.preflow_push.places.Place.{Place}
 use Rattle.galois_run.specs.declared.preflow_push.places.Walk.{Walk}
 use Rattle.galois_run.specs.declared.preflow_push.places.Place.TheVariants as places
 use Rattle.galois_run.specs.FlowCalls.{room_of, gain, minus}
-use Rattle.galois_run.specs.Discharge.{Terminals, Onward, node_item, node_plan, with_excess, along, with_flow, with_height, after_gains, unless_spent, is_terminal}
+use Rattle.galois_run.specs.Discharge.{Terminals, Onward, node_item, node_plan, with_excess, along, with_flow, with_height, after_gains, unless_spent}
 
 -- a reply that was due and didn't come counts as four zeros
 abbrev pub value_of_reply : Option Reply → ℤ

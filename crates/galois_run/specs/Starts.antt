@@ -1,5 +1,5 @@
 -- Where a flow program starts: the arcs out of the source are full, and the source is as high as there are nodes.
-use Rattle.std.specs.Prelude.{ℕ, suc, ℤ, pos, negsuc, Bool, not, ◌&&◌, List, [], ◌∷◌, map, replicate, if◌then◌else◌, int_lt, int_le}
+use Rattle.std.specs.Prelude.{ℕ, suc, ℤ, pos, negsuc, Bool, not, ◌&&◌, List, [], ◌∷◌, map, replicate, if◌then◌else◌, int_lt}
 use Rattle.std.specs.List.{filter, range_with_len}
 use Rattle.std.specs.Ordering.{int_eq}
 use Rattle.std.specs.Int.{w64, int_wrapping_add}

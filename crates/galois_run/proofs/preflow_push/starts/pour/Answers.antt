@@ -1,4 +1,4 @@
-use Rattle.std.proofs.Common.{◌≡◌, ◌+◌, ℤ, pos, ◌+ℤ◌, get_or, refl, to_z, of_z, arith}
+use Rattle.std.proofs.Common.{◌≡◌, ◌+◌, pos, ◌+ℤ◌, get_or, refl, to_z, of_z, arith}
 use Rattle.std.proofs.lemmas.Int.{ints}
 use Rattle.std.specs.Int.{w64}
 use Rattle.galois_run.specs.declared.preflow_push.network.Arc.{Arc}

@@ -1,4 +1,4 @@
-use Rattle.std.proofs.Common.{◌≡◌, ℕ, ◌+◌, ◌<◌, ℤ, pos, map, drop}
+use Rattle.std.proofs.Common.{◌≡◌, ℕ, ◌+◌, ◌<◌, pos, map, drop}
 use Rattle.gx_base.specs.Replays.{in_rooms}
 use Rattle.flow_graph.specs.FlowState.{state_of}
 use Rattle.galois_run.specs.FlowStates.{flow_in}

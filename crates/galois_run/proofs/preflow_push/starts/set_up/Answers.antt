@@ -1,4 +1,4 @@
-use Rattle.std.specs.Prelude.{ℕ, ℤ, refl}
+use Rattle.std.specs.Prelude.{ℕ, refl}
 use Rattle.std.proofs.Common.{ap, ◌∙◌, to_z, of_z}
 use Rattle.std.specs.Int.{w64}
 use Rattle.gx_base.specs.States.{State}

@@ -1,4 +1,4 @@
-use Rattle.std.proofs.Common.{◌≡◌, ℤ, refl, sym, ap, ◌∙◌, arith, rules, FitsSigned, to_z, of_z}
+use Rattle.std.proofs.Common.{◌≡◌, rules, to_z, of_z}
 use Rattle.std.proofs.lemmas.Int.{to_z-of_z}
 use Rattle.std.specs.Int.{w64}
 use Rattle.galois_run.proofs.DischargeMoves.{at_terminal}

@@ -1,13 +1,10 @@
-use Rattle.std.proofs.Common.{◌≡◌, ◌≤◌, ℤ, Bool, false, Option, Some, None, List, length, slice_get, is_some, refl, sym, ap, ◌∙◌, arith}
+use Rattle.std.proofs.Common.{◌≡◌, ◌≤◌, ℤ, false, Option, Some, None, length, is_some, refl, sym, ap, ◌∙◌, arith}
 use Rattle.std.proofs.lemmas.Int.{to_z-of_z}
 use Rattle.std.proofs.lemmas.Option.{slice_get_past}
 use Rattle.std.proofs.lemmas.Map.Entries.{length-values_of}
 use Rattle.std.specs.Int.{w64}
-use Rattle.std.specs.Global.{Vec}
-use Rattle.std.specs.Ordering.{int_eq}
-use Rattle.indexmap.specs.IndexMap.{get, values}
-use Rattle.galois_run.specs.declared.preflow_push.touches.Touch.{Touch}
-use Rattle.galois_run.specs.TouchLists.{list_at, touches_of, items_or_none}
+use Rattle.indexmap.specs.IndexMap.{values}
+use Rattle.galois_run.specs.TouchLists.{touches_of, items_or_none}
 use Rattle.galois_run.proofs.preflow_push.touches.Touches.list_of.Goals as goal
 
 none_found : {X : Type 0} (found : Option X) → false ≡ is_some found → found ≡ None
