@@ -23,3 +23,4 @@ pub mod PrintedTokens
 pub mod PrintedConditions
 pub mod PrintedLines
 pub mod PrintedTables
+pub mod ReadTables

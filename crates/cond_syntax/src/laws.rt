@@ -4,7 +4,7 @@
 ghost use Rattle.std.specs.Prelude.{◌≡◌, ◌↔◌, ◌⊎◌, ℕ, Bool, true, false, List, [], Some, None, Contains};
 ghost use Rattle.gx_base.specs.declared.kinds.Kind.{Kind};
 ghost use Rattle.gx_base.specs.Conditions.{Condition};
-ghost use Rattle.gx_base.specs.TableRows.{RowMap};
+ghost use Rattle.gx_base.specs.TableRows.{RowMap, row_of};
 ghost use Rattle.gx_base.specs.Tables.{Rows};
 ghost use Rattle.cond_syntax.specs.Tokens.{Token, tokens_of};
 ghost use Rattle.cond_syntax.specs.Written.{Written, condition_in};
@@ -70,4 +70,9 @@ pub fn printed_conditions_are_read_back()
 /// A printed table is the text of a table with its rows, wherever its kind is wanted.
 pub fn printed_tables_are_read_back()
     ensures { (kind : Kind) (rows : Rows) → IsPrintableTable kind rows → (wanted : List Kind) → Contains wanted kind → IsReadBack wanted (table_text kind rows) kind rows }
+{}
+
+/// A table that was read is one of those that are read back from what is printed of them.
+pub fn read_tables_are_printable()
+    ensures { (wanted : List Kind) (bytes : List ℕ) (kind : Kind) (rows : RowMap) → IsTableText wanted bytes kind rows → IsPrintableTable kind (row_of rows) }
 {}
