@@ -1,3 +1,8 @@
+ghost use Rattle.std.specs.Prelude.{IfOk, List, Contains, string_bytes};
+ghost use Rattle.gx_base.specs.declared.kinds.Kind.{Kind};
+ghost use Rattle.gx_base.specs.TableRows.{row_of};
+ghost use Rattle.cond_syntax.specs.Printable.{IsReadBack};
+
 use super::shipped::{CELLS, DOMAINS, FLOWS, POINTS, SETS};
 use super::*;
 use crate::print_table;
@@ -400,12 +405,25 @@ fn are_alike(alloc: Global, kind: Kind, table: &Table, other: &Table) -> Result<
     Ok(true)
 }
 
+/// The table of a text, and what is printed of it.
+fn read_and_print(
+    alloc: Global,
+    bytes: &[u8],
+    wanted: &[Kind],
+) -> Result<(Kind, Table, String), Fail>
+    // What is printed of a table that was read is read back, with the same rows, wherever its kind is wanted.
+    ensures { IfOk result (λ x. (kinds : List Kind) → Contains kinds x.0 → IsReadBack kinds (string_bytes x.2) x.0 (row_of x.1)) }
+{
+    cond_syntax::laws::read_tables_are_printable();
+    let (kind, table) = read_table(alloc, bytes, wanted)?;
+    let printed = print_table(alloc, kind, &table)?;
+    Ok((kind, table, printed))
+}
+
 /// Whether the table of a text is printed, read back with the same rows, and then printed as before.
 fn is_read_back(alloc: Global, text: &str) -> Result<bool, Fail> {
-    let (kind, table) = read_table(alloc, text.as_bytes(), &ALL)?;
-    let printed = print_table(alloc, kind, &table)?;
-    let (again, other) = read_table(alloc, printed.as_bytes(), &ALL)?;
-    let twice = print_table(alloc, again, &other)?;
+    let (kind, table, printed) = read_and_print(alloc, text.as_bytes(), &ALL)?;
+    let (again, other, twice) = read_and_print(alloc, printed.as_bytes(), &ALL)?;
     Ok(
         again == kind
             && are_alike(alloc, kind, &table, &other)?
@@ -417,6 +435,14 @@ fn is_read_back(alloc: Global, text: &str) -> Result<bool, Fail> {
 fn shipped_tables_are_printed_and_read_back(rt: HostRuntime) -> Result<(), Fail> {
     for text in [SETS, CELLS, FLOWS, POINTS, DOMAINS] {
         assert!(rt; is_read_back(rt.alloc(), text)?);
+    }
+    Ok(())
+}
+
+#[test]
+fn small_tables_are_printed_and_read_back(rt: HostRuntime) -> Result<(), Fail> {
+    for text in READ {
+        assert!(rt; is_read_back(rt.alloc(), text)?, "{text:?}");
     }
     Ok(())
 }
