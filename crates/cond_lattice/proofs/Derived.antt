@@ -78,7 +78,7 @@ pub is_derived-true : (c : Condition) → is_derived c True ≡ true
 is_derived-true (Or x y) = and_from _ _ (is_derived-true x) (is_derived-true y)
 is_derived-true _ = refl
 
-or_left_above : (c a b : Condition) → is_derived c a ≡ true → is_derived c (Or a b) ≡ true
+pub or_left_above : (c a b : Condition) → is_derived c a ≡ true → is_derived c (Or a b) ≡ true
 or_left_above False a b h = refl
 or_left_above (And x y) a b h = or_left _ _ (or_right _ _ h)
 or_left_above (Or x y) a b h =
@@ -86,7 +86,7 @@ or_left_above (Or x y) a b h =
     and_from _ _ (or_left_above x a b p.0) (or_left_above y a b p.1)
 or_left_above _ a b h = or_left _ _ h
 
-or_right_above : (c a b : Condition) → is_derived c b ≡ true → is_derived c (Or a b) ≡ true
+pub or_right_above : (c a b : Condition) → is_derived c b ≡ true → is_derived c (Or a b) ≡ true
 or_right_above False a b h = refl
 or_right_above (And x y) a b h = or_right _ _ h
 or_right_above (Or x y) a b h =

@@ -1,6 +1,9 @@
 pub mod SameLemmas
 pub mod Derived
-pub mod RowLemmas
+pub mod RowSteps
+pub mod TurnedLaws
+pub mod RowLists
+pub mod RowRoom
 pub mod Standing
 pub mod Implied
 pub mod Bounds

@@ -1,32 +1,81 @@
--- How a decision is kept on the stack: the heavy side of each `and` and `or`, and a row of answers along it.
-use Rattle.std.specs.Prelude.{◌≡◌, ℕ, ◌+◌, ◌-◌, ◌^◌, Bool, true, false, min, nat_lt, List, [], ◌∷◌, if◌then◌else◌}
-use Rattle.gx_base.specs.Conditions.{Condition, And, Or}
+-- Rows of answers, and how many of them are kept at once.
+use Rattle.std.specs.Prelude.{◌≡◌, ◌⊎◌, ℕ, ◌+◌, ◌-◌, ◌^◌, ◌==◌, Bool, true, false, ◌&&◌, ◌||◌, min, max, nat_lt, List, [], ◌∷◌, ◌++◌, length, drop, if◌then◌else◌}
+use Rattle.gx_base.specs.Conditions.{Condition, True, False, And, Or}
 use Rattle.cond_lattice.specs.Derivations.{is_derived}
 
--- the number of parts that are no `and` and no `or`, up to the greatest number of 64 bits
-abbrev pub units_of : Condition → ℕ
-units_of (And x y) = min (units_of x + units_of y) (2 ^ 64 - 1)
-units_of (Or x y) = min (units_of x + units_of y) (2 ^ 64 - 1)
-units_of _ = 1
+-- a condition turned over: `and` for `or`, `true` for `false`, and each the other way. An atom or a negation stays
+abbrev pub turned : Condition → Condition
+turned True = False
+turned False = True
+turned (And x y) = Or (turned x) (turned y)
+turned (Or x y) = And (turned x) (turned y)
+turned c = c
 
--- all parts: what falls from a condition to its sides
+-- a condition as it is, or turned over
+abbrev pub faced : Bool → Condition → Condition
+faced false c = c
+faced true c = turned c
+
+-- the number of parts of a condition, itself among them
 abbrev pub parts_of : Condition → ℕ
 parts_of (And x y) = parts_of x + parts_of y + 1
 parts_of (Or x y) = parts_of x + parts_of y + 1
 parts_of _ = 1
+
+-- the answers of a test for each part of a condition, a part after its sides
+abbrev pub answers : (Condition → Bool) → Condition → List Bool
+answers test (And x y) = answers test x ++ answers test y ++ test (And x y) ∷ []
+answers test (Or x y) = answers test x ++ answers test y ++ test (Or x y) ∷ []
+answers test c = test c ∷ []
+
+-- the row of c and d, both turned over or neither: for each part of d whether c is below it
+abbrev pub row_for : Bool → Condition → Condition → List Bool
+row_for turned c d = answers (is_derived (faced turned c)) (faced turned d)
+
+-- a list begins with another
+abbrev pub Begins : List Bool → List Bool → Type 0
+Begins front row = row ≡ front ++ drop (length front) row
+
+-- a condition is an `and` or an `or` of these two
+abbrev pub AreSides : Condition → Condition → Condition → Type 0
+AreSides c x y = (c ≡ And x y) ⊎ (c ≡ Or x y)
 
 abbrev pub is_joined : Condition → Bool
 is_joined (And x y) = true
 is_joined (Or x y) = true
 is_joined _ = false
 
+abbrev pub is_and : Condition → Bool
+is_and (And x y) = true
+is_and _ = false
+
+-- Whether a condition is below another, by whether its sides are: an `and` is where one of them is, and an `or` where
+-- both are.
+abbrev pub below_by_sides : Bool → Bool → Bool → Bool
+below_by_sides is_and first second = if is_and then first || second else (first && second)
+
+-- Whether a condition is below another, by whether it is below its sides: below an `and` where it is below both, and
+-- below an `or` where it is below one of them, or is by its own sides.
+abbrev pub above_by_sides : Bool → Bool → Bool → Bool → Bool
+above_by_sides is_and first second own = if is_and then first && second else (first || second || own)
+
+-- how many rows are kept at once for sides that want so many: where both want as many, one more than they do. It
+-- goes up to the greatest number of 64 bits
+abbrev pub more_rows : ℕ → ℕ → ℕ
+more_rows m n = if m == n then min (m + 1) (2 ^ 64 - 1) else max m n
+
+abbrev pub rows_of : Condition → ℕ
+rows_of (And x y) = more_rows (rows_of x) (rows_of y)
+rows_of (Or x y) = more_rows (rows_of x) (rows_of y)
+rows_of _ = 1
+
+-- the side that wants more rows, and the other one
 abbrev pub heavier : Condition → Condition → Condition
-heavier x y = if nat_lt (units_of x) (units_of y) then y else x
+heavier x y = if nat_lt (rows_of x) (rows_of y) then y else x
 
 abbrev pub lighter : Condition → Condition → Condition
-lighter x y = if nat_lt (units_of x) (units_of y) then x else y
+lighter x y = if nat_lt (rows_of x) (rows_of y) then x else y
 
--- the side with more units, and the other one
 abbrev pub heavy_of : Condition → Condition
 heavy_of (And x y) = heavier x y
 heavy_of (Or x y) = heavier x y
@@ -36,18 +85,3 @@ abbrev pub light_of : Condition → Condition
 light_of (And x y) = lighter x y
 light_of (Or x y) = lighter x y
 light_of c = c
-
-abbrev pub left_of : Condition → Condition
-left_of (And x y) = x
-left_of (Or x y) = x
-left_of c = c
-
-abbrev pub right_of : Condition → Condition
-right_of (And x y) = y
-right_of (Or x y) = y
-right_of c = c
-
--- whether c, its heavy side, the heavy side of that and so on are below d, as far as there are such and the row goes
-abbrev pub IsRow : List Bool → Condition → Condition → Type 0
-IsRow [] c d = Unit {0}
-IsRow (b ∷ bs) c d = (b ≡ is_derived c d) × (is_joined c ≡ true → IsRow bs (heavy_of c) d)

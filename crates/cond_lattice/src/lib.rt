@@ -5,6 +5,7 @@
 #![tactic(auto)]
 
 mod classes;
+mod decisions;
 mod grades;
 mod rows;
 mod rules;

@@ -1,31 +1,95 @@
-ghost use Rattle.std.specs.Prelude.{◌≡◌, ◌<◌, true, length, nat_lt, slice_get, drop};
-ghost use Rattle.gx_base.specs.Conditions.{condition_of};
-ghost use Rattle.cond_lattice.specs.Derivations as rules;
+ghost use Rattle.std.specs.Prelude.{◌≡◌, ◌+◌, ◌-◌, ◌*◌, ◌^◌, ◌≤◌, ◌++◌, true, false, min, length, drop, IfSome, IfNone};
+ghost use Rattle.gx_base.specs.Conditions.{condition_of, is_false};
+ghost use Rattle.cond_lattice.specs.Derivations.{is_derived};
+ghost use Rattle.cond_lattice.specs.Simple.{is_true};
 ghost use Rattle.cond_lattice.specs.Rows as along;
-ghost use Rattle.cond_lattice.specs.Rows.{IsRow, units_of, heavy_of, light_of, left_of, right_of};
+ghost use Rattle.cond_lattice.specs.Rows.{faced, parts_of, row_for, rows_of, heavy_of, light_of, is_joined, is_and, AreSides, Begins, below_by_sides, above_by_sides};
 
 use crate::same::same_condition;
 use gx_base::Cond;
 
-// A pair of a left `and` and a right `or` may be reached by going down in either tree first, so a plain
-// recursion decides the same pair of parts again and again. Here the answers for the left condition, its
-// heavy side, the heavy side of that and so on stand in one row, which is made once for each part of the
-// right condition. Only the light sides are decided anew.
+// A row has the answers for one condition and each part of another, a part after its sides. The row of an
+// `and` or an `or` is made from those of its two sides in one walk, so each pair of parts is looked at once.
+// Turned over, the order is the same the other way: then `and` counts as `or`, and `true` as `false`.
 
-/// How far a row goes. A condition read from a text is no deeper, and a deeper one is decided in pieces.
-const SPAN: usize = 64;
+/// How many answers may be kept at once.
+pub(crate) const MOST_ANSWERS: usize = 1_048_576;
 
-fn units(cond: &Cond) -> u64
-    ensures { result ≡ units_of (condition_of cond.now) }
+/// The number of parts.
+pub(crate) fn parts(cond: &Cond) -> usize
+    ensures { result ≡ min (parts_of (condition_of cond.now)) (2 ^ 64 - 1) }
 {
     match cond {
-        Cond::And(x, y) | Cond::Or(x, y) => units(x).saturating_add(units(y)),
+        Cond::And(x, y) | Cond::Or(x, y) => parts(x).saturating_add(parts(y)).saturating_add(1),
         _ => 1,
     }
 }
 
+/// How many rows have to be kept at once while the row of a condition is made, where the side that wants
+/// more comes first: as few as an expression wants registers (Ershov, On programming of arithmetic
+/// operations, 1958), so at most one more than the logarithm of its parts.
+pub(crate) fn rows_wanted(cond: &Cond) -> usize
+    ensures { result ≡ rows_of (condition_of cond.now) }
+{
+    match cond {
+        Cond::And(x, y) | Cond::Or(x, y) => {
+            let left = rows_wanted(x);
+            let right = rows_wanted(y);
+            if left == right {
+                left.saturating_add(1)
+            } else {
+                left.max(right)
+            }
+        }
+        _ => 1,
+    }
+}
+
+/// The side that wants more rows.
+fn heavy(cond: &Cond) -> &Cond
+    ensures { condition_of result.now ≡ heavy_of (condition_of cond.now) }
+{
+    match cond {
+        Cond::And(x, y) | Cond::Or(x, y) => {
+            if rows_wanted(x) < rows_wanted(y) {
+                y
+            } else {
+                x
+            }
+        }
+        _ => cond,
+    }
+}
+
+/// The other side.
+fn light(cond: &Cond) -> &Cond
+    ensures { condition_of result.now ≡ light_of (condition_of cond.now) }
+{
+    match cond {
+        Cond::And(x, y) | Cond::Or(x, y) => {
+            if rows_wanted(x) < rows_wanted(y) {
+                x
+            } else {
+                y
+            }
+        }
+        _ => cond,
+    }
+}
+
+/// The sides of an `and` or an `or`.
+fn sides(cond: &Cond) -> Option<(&Cond, &Cond)>
+    ensures some { IfSome result (λ both. AreSides (condition_of cond.now) (condition_of both.0.now) (condition_of both.1.now)) }
+    ensures none { IfNone result (is_joined (condition_of cond.now) ≡ false) }
+{
+    match cond {
+        Cond::And(x, y) | Cond::Or(x, y) => Some((x, y)),
+        _ => None,
+    }
+}
+
 fn is_joined(cond: &Cond) -> bool
-    ensures { result ≡ along.is_joined (condition_of cond.now) }
+    ensures { result ≡ is_joined (condition_of cond.now) }
 {
     match cond {
         Cond::And(_, _) | Cond::Or(_, _) => true,
@@ -33,114 +97,123 @@ fn is_joined(cond: &Cond) -> bool
     }
 }
 
-/// Whether the first has fewer units. Where a side is no `and` and no `or`, nothing is counted.
-fn is_lighter(x: &Cond, y: &Cond) -> bool
-    ensures { result ≡ nat_lt (units_of (condition_of x.now)) (units_of (condition_of y.now)) }
-{
-    is_joined(y) && (!is_joined(x) || units(x) < units(y))
-}
-
-/// The side with more units.
-fn heavy(cond: &Cond) -> &Cond
-    ensures { condition_of result.now ≡ heavy_of (condition_of cond.now) }
+fn is_and(cond: &Cond, turned: bool) -> bool
+    ensures { result ≡ is_and (faced turned (condition_of cond.now)) }
 {
     match cond {
-        Cond::And(x, y) | Cond::Or(x, y) => { if is_lighter(x, y) { y } else { x } }
-        _ => cond,
+        Cond::And(_, _) => !turned,
+        Cond::Or(_, _) => turned,
+        _ => false,
     }
 }
 
-/// The side with fewer units.
-fn light(cond: &Cond) -> &Cond
-    ensures { condition_of result.now ≡ light_of (condition_of cond.now) }
+fn is_true(cond: &Cond, turned: bool) -> bool
+    ensures { result ≡ is_true (faced turned (condition_of cond.now)) }
 {
     match cond {
-        Cond::And(x, y) | Cond::Or(x, y) => { if is_lighter(x, y) { x } else { y } }
-        _ => cond,
+        Cond::True => !turned,
+        Cond::False => turned,
+        _ => false,
     }
 }
 
-/// Whether c is below d by the rules on conditions.
-#[cycle(rows)]
-pub(crate) fn is_derived(c: &Cond, d: &Cond) -> bool
-    ensures { result ≡ rules.is_derived (condition_of c.now) (condition_of d.now) }
+fn is_false(cond: &Cond, turned: bool) -> bool
+    ensures { result ≡ is_false (faced turned (condition_of cond.now)) }
 {
-    let mut row = [false; SPAN];
-    fill(&mut row, c, d);
-    row[0]
+    match cond {
+        Cond::False => !turned,
+        Cond::True => turned,
+        _ => false,
+    }
 }
 
-/// Makes the row of c and d.
-#[cycle(rows)]
-fn fill(row: &mut [bool], c: &Cond, d: &Cond)
-    requires { length row.old ≡ SPAN }
-    ensures { IsRow row.new (condition_of c.now) (condition_of d.now) }
+/// Makes the row of c and d, where c is no `and` and no `or`, at the front of `row`. Gives its length.
+fn put_unit(row: &mut [bool], c: &Cond, d: &Cond, turned: bool) -> usize
+    requires unit { is_joined (condition_of c.now) ≡ false }
+    requires room { parts_of (condition_of d.now) ≤ length row.old }
+    ensures count { result ≡ parts_of (condition_of d.now) }
+    ensures row { row.new ≡ row_for turned (condition_of c.now) (condition_of d.now) ++ drop (parts_of (condition_of d.now)) row.old }
 {
-    let mut right = [false; SPAN];
-    if let Cond::And(x, y) | Cond::Or(x, y) = d {
-        fill(row, c, x);
-        fill(&mut right, c, y);
-    }
-    walk(row, &right, c, d);
+    let Some((x, y)) = sides(d) else {
+        row[0] = is_false(c, turned) || is_true(d, turned) || same_condition(c, d);
+        return 1;
+    };
+    let left = put_unit(row, c, x, turned);
+    let place = left + put_unit(&mut row[left..], c, y, turned);
+    row[place] = above(row[left - 1], row[place - 1], false, is_and(d, turned));
+    place + 1
 }
 
-/// From the rows of c and the two sides of d, makes the row of c and d.
-#[cycle(rows)]
-fn walk(row: &mut [bool], right: &[bool], c: &Cond, d: &Cond)
-    requires fits { length row.old ≡ length right.now }
-    requires left { along.is_joined (condition_of d.now) ≡ true → IsRow row.old (condition_of c.now) (left_of (condition_of d.now)) }
-    requires right { along.is_joined (condition_of d.now) ≡ true → IsRow right.now (condition_of c.now) (right_of (condition_of d.now)) }
-    ensures { IsRow row.new (condition_of c.now) (condition_of d.now) }
+/// From the rows of the two sides of c makes the row of c and d, in place of the first. Gives its length.
+fn join(row: &mut [bool], other: &[bool], c: &Cond, d: &Cond, turned: bool) -> usize
+    requires joined { is_joined (condition_of c.now) ≡ true }
+    requires room { parts_of (condition_of d.now) ≤ length row.old }
+    requires heavy { Begins (row_for turned (heavy_of (condition_of c.now)) (condition_of d.now)) row.old }
+    requires other_room { parts_of (condition_of d.now) ≤ length other.now }
+    requires light { Begins (row_for turned (light_of (condition_of c.now)) (condition_of d.now)) other.now }
+    ensures count { result ≡ parts_of (condition_of d.now) }
+    ensures row { row.new ≡ row_for turned (condition_of c.now) (condition_of d.now) ++ drop (parts_of (condition_of d.now)) row.old }
 {
-    if row.is_empty() {
-        return;
-    }
-    let heavy = is_joined(c) && descend(row, right, c, d);
-    row[0] = decide(c, d, heavy, row[0], right[0]);
+    let Some((x, y)) = sides(d) else {
+        row[0] = below(row[0], other[0], is_and(c, turned));
+        return 1;
+    };
+    let left = join(row, other, c, x, turned);
+    let place = left + join(&mut row[left..], &other[left..], c, y, turned);
+    let own = below(row[place], other[place], is_and(c, turned));
+    row[place] = above(row[left - 1], row[place - 1], own, is_and(d, turned));
+    place + 1
 }
 
-/// Makes the row of c and d from its second place on, and tells whether the heavy side of c is below d.
-#[cycle(rows)]
-fn descend(row: &mut [bool], right: &[bool], c: &Cond, d: &Cond) -> bool
-    requires joined { along.is_joined (condition_of c.now) ≡ true }
-    requires some { 0 < length row.old }
-    requires fits { length row.old ≡ length right.now }
-    requires left { along.is_joined (condition_of d.now) ≡ true → IsRow row.old (condition_of c.now) (left_of (condition_of d.now)) }
-    requires right { along.is_joined (condition_of d.now) ≡ true → IsRow right.now (condition_of c.now) (right_of (condition_of d.now)) }
-    ensures answer { result ≡ rules.is_derived (heavy_of (condition_of c.now)) (condition_of d.now) }
-    ensures first { slice_get row.new 0 ≡ slice_get row.old 0 }
-    ensures rest { IsRow (drop 1 row.new) (heavy_of (condition_of c.now)) (condition_of d.now) }
+/// By its two sides, an `and` is below what one of them is below, and an `or` below what both are below.
+fn below(first: bool, second: bool, is_and: bool) -> bool
+    ensures { result ≡ below_by_sides is_and first second }
 {
-    let side = heavy(c);
-    if row.len() == 1 {
-        return is_derived(side, d);
+    if is_and {
+        first || second
+    } else {
+        first && second
     }
-    walk(&mut row[1..], &right[1..], side, d);
-    row[1]
 }
 
-/// From whether the heavy side of c is below d, and c below each side of d, tells whether c is below d.
-#[cycle(rows)]
-fn decide(c: &Cond, d: &Cond, heavy: bool, left: bool, right: bool) -> bool
-    requires heavy { along.is_joined (condition_of c.now) ≡ true → heavy ≡ rules.is_derived (heavy_of (condition_of c.now)) (condition_of d.now) }
-    requires left { along.is_joined (condition_of d.now) ≡ true → left ≡ rules.is_derived (condition_of c.now) (left_of (condition_of d.now)) }
-    requires right { along.is_joined (condition_of d.now) ≡ true → right ≡ rules.is_derived (condition_of c.now) (right_of (condition_of d.now)) }
-    ensures { result ≡ rules.is_derived (condition_of c.now) (condition_of d.now) }
+/// What is below an `and` is below both its sides. What is below an `or` is below one of them, or is below
+/// it by its own sides.
+fn above(first: bool, second: bool, own: bool, is_and: bool) -> bool
+    ensures { result ≡ above_by_sides is_and first second own }
 {
-    match c {
-        Cond::False => true,
-        Cond::Or(_, _) => heavy && is_derived(light(c), d),
-        Cond::And(_, _) => match d {
-            Cond::True => true,
-            Cond::And(_, _) => left && right,
-            Cond::Or(_, _) => heavy || left || right || is_derived(light(c), d),
-            _ => heavy || is_derived(light(c), d),
-        },
-        _ => match d {
-            Cond::True => true,
-            Cond::And(_, _) => left && right,
-            Cond::Or(_, _) => left || right,
-            _ => same_condition(c, d),
-        },
+    if is_and {
+        first && second
+    } else {
+        first || second || own
     }
+}
+
+/// Makes the row of c and d at the front of `rows`. The rest is for further rows.
+fn fill(rows: &mut [bool], count: usize, c: &Cond, d: &Cond, turned: bool)
+    requires count { count ≡ parts_of (condition_of d.now) }
+    requires room { rows_of (condition_of c.now) * count ≤ length rows.old }
+    requires few { length rows.old ≤ MOST_ANSWERS }
+    ensures { Begins (row_for turned (condition_of c.now) (condition_of d.now)) rows.new }
+{
+    if is_joined(c) {
+        fill(rows, count, heavy(c), d, turned);
+        let (row, rest) = rows.split_at_mut(count);
+        fill(rest, count, light(c), d, turned);
+        let _count = join(row, rest, c, d, turned);
+    } else {
+        let _count = put_unit(rows, c, d, turned);
+    }
+}
+
+/// Whether c is below d, or turned over so, where so many answers are enough.
+#[inline(never)]
+pub(crate) fn is_derived_within<const ANSWERS: usize>(c: &Cond, d: &Cond, turned: bool) -> bool
+    requires room { rows_of (condition_of c.now) * parts_of (condition_of d.now) ≤ ANSWERS }
+    requires few { ANSWERS ≤ MOST_ANSWERS }
+    ensures { result ≡ is_derived (faced turned (condition_of c.now)) (faced turned (condition_of d.now)) }
+{
+    let mut rows = [false; ANSWERS];
+    let count = parts(d);
+    fill(&mut rows, count, c, d, turned);
+    rows[count - 1]
 }

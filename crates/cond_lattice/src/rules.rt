@@ -5,7 +5,7 @@ ghost use Rattle.cond_lattice.specs.Derivations as terms;
 ghost use Rattle.cond_lattice.specs.Derivations.{IsRowBelow};
 
 use crate::classes::names_state;
-use crate::rows::is_derived;
+use crate::decisions::is_derived;
 use gx_base::{Cond, Side};
 
 /// Whether a row is below another by the rules: a derivation exists, and each state function that the

@@ -1,0 +1,18 @@
+use Rattle.std.proofs.Common.{sym, ap, ◌∙◌}
+use Rattle.gx_base.specs.Conditions.{condition_of}
+use Rattle.cond_lattice.specs.Derivations.{is_derived}
+use Rattle.cond_lattice.proofs.Derived.{is_derived-true}
+use Rattle.cond_lattice.proofs.TurnedLaws.{is_derived-turned}
+use Rattle.cond_lattice.proofs.decisions.+decisions.Goals as goal
+
+pub is_derived-returns-then-over-le-FEW_ANSWERS : goal.is_derived-returns-then-over-le-FEW_ANSWERS
+is_derived-returns-then-over-le-FEW_ANSWERS t c =
+    c.is_derived_within-then-over-le-FEW_ANSWERS.ensures ∙ is_derived-turned (condition_of c.args.c.now) (condition_of c.args.d.now)
+
+pub is_derived-returns-then-over-le-MOST_ANSWERS : goal.is_derived-returns-then-over-le-MOST_ANSWERS
+is_derived-returns-then-over-le-MOST_ANSWERS t c =
+    c.is_derived_within-then-over-le-MOST_ANSWERS.ensures ∙ is_derived-turned (condition_of c.args.c.now) (condition_of c.args.d.now)
+
+pub is_derived_apart-returns-in-False-default-2 : goal.is_derived_apart-returns-in-False-default-2
+is_derived_apart-returns-in-False-default-2 t c =
+    sym (ap (λ d. is_derived (condition_of c.args.c.now) (condition_of d)) c.in-False-default.is-1 ∙ is_derived-true (condition_of c.args.c.now))

@@ -1,0 +1,56 @@
+ghost use Rattle.std.specs.Prelude.{◌≡◌, ◌*◌, ◌-◌, ◌^◌, min};
+ghost use Rattle.gx_base.specs.Conditions.{condition_of};
+ghost use Rattle.cond_lattice.specs.Derivations as rules;
+ghost use Rattle.cond_lattice.specs.Rows.{parts_of, rows_of};
+
+use crate::rows::{MOST_ANSWERS, is_derived_within, parts, rows_wanted};
+use crate::same::same_condition;
+use gx_base::Cond;
+
+/// How many answers most conditions want.
+const FEW_ANSWERS: usize = 1_024;
+
+/// How many answers are kept at once for the row of c and d.
+fn answers_wanted(c: &Cond, d: &Cond) -> usize
+    ensures { result ≡ min (rows_of (condition_of c.now) * min (parts_of (condition_of d.now)) (2 ^ 64 - 1)) (2 ^ 64 - 1) }
+{
+    rows_wanted(c).saturating_mul(parts(d))
+}
+
+/// Whether c is below d by the rules on conditions.
+#[cycle(decisions)]
+pub(crate) fn is_derived(c: &Cond, d: &Cond) -> bool
+    ensures { result ≡ rules.is_derived (condition_of c.now) (condition_of d.now) }
+{
+    let upright = answers_wanted(c, d);
+    let over = answers_wanted(d, c);
+    if upright <= FEW_ANSWERS {
+        is_derived_within::<FEW_ANSWERS>(c, d, false)
+    } else if over <= FEW_ANSWERS {
+        is_derived_within::<FEW_ANSWERS>(d, c, true)
+    } else if upright <= MOST_ANSWERS {
+        is_derived_within::<MOST_ANSWERS>(c, d, false)
+    } else if over <= MOST_ANSWERS {
+        is_derived_within::<MOST_ANSWERS>(d, c, true)
+    } else {
+        is_derived_apart(c, d)
+    }
+}
+
+/// The same, by the rule that each of the two calls for.
+#[cycle(decisions)]
+fn is_derived_apart(c: &Cond, d: &Cond) -> bool
+    ensures { result ≡ rules.is_derived (condition_of c.now) (condition_of d.now) }
+{
+    match (c, d) {
+        (Cond::False, _) | (_, Cond::True) => true,
+        (Cond::Or(x, y), _) => is_derived(x, d) && is_derived(y, d),
+        (_, Cond::And(x, y)) => is_derived(c, x) && is_derived(c, y),
+        (Cond::And(x, y), Cond::Or(u, v)) => {
+            is_derived(x, d) || is_derived(y, d) || is_derived(c, u) || is_derived(c, v)
+        }
+        (Cond::And(x, y), _) => is_derived(x, d) || is_derived(y, d),
+        (_, Cond::Or(x, y)) => is_derived(c, x) || is_derived(c, y),
+        _ => same_condition(c, d),
+    }
+}
