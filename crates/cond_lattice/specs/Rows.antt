@@ -51,13 +51,13 @@ is_and _ = false
 
 -- Whether a condition is below another, by whether its sides are: an `and` is where one of them is, and an `or` where
 -- both are.
-abbrev pub below_by_sides : Bool → Bool → Bool → Bool
-below_by_sides is_and first second = if is_and then first || second else (first && second)
+abbrev pub lower_answer_of : Bool → Bool → Bool → Bool
+lower_answer_of is_and first second = if is_and then first || second else (first && second)
 
 -- Whether a condition is below another, by whether it is below its sides: below an `and` where it is below both, and
 -- below an `or` where it is below one of them, or is by its own sides.
-abbrev pub above_by_sides : Bool → Bool → Bool → Bool → Bool
-above_by_sides is_and first second own = if is_and then first && second else (first || second || own)
+abbrev pub upper_answer_of : Bool → Bool → Bool → Bool → Bool
+upper_answer_of is_and first second own = if is_and then first && second else (first || second || own)
 
 -- how many rows are kept at once for sides that want so many: where both want as many, one more than they do. It
 -- goes up to the greatest number of 64 bits

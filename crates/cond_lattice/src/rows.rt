@@ -3,7 +3,7 @@ ghost use Rattle.gx_base.specs.Conditions.{condition_of, is_false};
 ghost use Rattle.cond_lattice.specs.Derivations.{is_derived};
 ghost use Rattle.cond_lattice.specs.Simple.{is_true};
 ghost use Rattle.cond_lattice.specs.Rows as along;
-ghost use Rattle.cond_lattice.specs.Rows.{faced, parts_of, row_for, rows_of, heavy_of, light_of, is_joined, is_and, AreSides, Begins, below_by_sides, above_by_sides};
+ghost use Rattle.cond_lattice.specs.Rows.{faced, parts_of, row_for, rows_of, heavy_of, light_of, is_joined, is_and, AreSides, Begins, lower_answer_of, upper_answer_of};
 
 use crate::same::same_condition;
 use gx_base::Cond;
@@ -128,7 +128,7 @@ fn is_false(cond: &Cond, turned: bool) -> bool
 }
 
 /// Makes the row of c and d, where c is no `and` and no `or`, at the front of `row`. Gives its length.
-fn put_unit(row: &mut [bool], c: &Cond, d: &Cond, turned: bool) -> usize
+fn put_unit_row(row: &mut [bool], c: &Cond, d: &Cond, turned: bool) -> usize
     requires unit { is_joined (condition_of c.now) ≡ false }
     requires room { parts_of (condition_of d.now) ≤ length row.old }
     ensures count { result ≡ parts_of (condition_of d.now) }
@@ -138,14 +138,14 @@ fn put_unit(row: &mut [bool], c: &Cond, d: &Cond, turned: bool) -> usize
         row[0] = is_false(c, turned) || is_true(d, turned) || same_condition(c, d);
         return 1;
     };
-    let left = put_unit(row, c, x, turned);
-    let place = left + put_unit(&mut row[left..], c, y, turned);
-    row[place] = above(row[left - 1], row[place - 1], false, is_and(d, turned));
+    let left = put_unit_row(row, c, x, turned);
+    let place = left + put_unit_row(&mut row[left..], c, y, turned);
+    row[place] = upper_answer(row[left - 1], row[place - 1], false, is_and(d, turned));
     place + 1
 }
 
 /// From the rows of the two sides of c makes the row of c and d, in place of the first. Gives its length.
-fn join(row: &mut [bool], other: &[bool], c: &Cond, d: &Cond, turned: bool) -> usize
+fn put_joined_row(row: &mut [bool], other: &[bool], c: &Cond, d: &Cond, turned: bool) -> usize
     requires joined { is_joined (condition_of c.now) ≡ true }
     requires room { parts_of (condition_of d.now) ≤ length row.old }
     requires heavy { Begins (row_for turned (heavy_of (condition_of c.now)) (condition_of d.now)) row.old }
@@ -155,19 +155,19 @@ fn join(row: &mut [bool], other: &[bool], c: &Cond, d: &Cond, turned: bool) -> u
     ensures row { row.new ≡ row_for turned (condition_of c.now) (condition_of d.now) ++ drop (parts_of (condition_of d.now)) row.old }
 {
     let Some((x, y)) = sides(d) else {
-        row[0] = below(row[0], other[0], is_and(c, turned));
+        row[0] = lower_answer(row[0], other[0], is_and(c, turned));
         return 1;
     };
-    let left = join(row, other, c, x, turned);
-    let place = left + join(&mut row[left..], &other[left..], c, y, turned);
-    let own = below(row[place], other[place], is_and(c, turned));
-    row[place] = above(row[left - 1], row[place - 1], own, is_and(d, turned));
+    let left = put_joined_row(row, other, c, x, turned);
+    let place = left + put_joined_row(&mut row[left..], &other[left..], c, y, turned);
+    let own = lower_answer(row[place], other[place], is_and(c, turned));
+    row[place] = upper_answer(row[left - 1], row[place - 1], own, is_and(d, turned));
     place + 1
 }
 
 /// By its two sides, an `and` is below what one of them is below, and an `or` below what both are below.
-fn below(first: bool, second: bool, is_and: bool) -> bool
-    ensures { result ≡ below_by_sides is_and first second }
+fn lower_answer(first: bool, second: bool, is_and: bool) -> bool
+    ensures { result ≡ lower_answer_of is_and first second }
 {
     if is_and {
         first || second
@@ -178,8 +178,8 @@ fn below(first: bool, second: bool, is_and: bool) -> bool
 
 /// What is below an `and` is below both its sides. What is below an `or` is below one of them, or is below
 /// it by its own sides.
-fn above(first: bool, second: bool, own: bool, is_and: bool) -> bool
-    ensures { result ≡ above_by_sides is_and first second own }
+fn upper_answer(first: bool, second: bool, own: bool, is_and: bool) -> bool
+    ensures { result ≡ upper_answer_of is_and first second own }
 {
     if is_and {
         first && second
@@ -189,19 +189,19 @@ fn above(first: bool, second: bool, own: bool, is_and: bool) -> bool
 }
 
 /// Makes the row of c and d at the front of `rows`. The rest is for further rows.
-fn fill(rows: &mut [bool], count: usize, c: &Cond, d: &Cond, turned: bool)
+fn put_row(rows: &mut [bool], count: usize, c: &Cond, d: &Cond, turned: bool)
     requires count { count ≡ parts_of (condition_of d.now) }
     requires room { rows_of (condition_of c.now) * count ≤ length rows.old }
     requires few { length rows.old ≤ MOST_ANSWERS }
     ensures { Begins (row_for turned (condition_of c.now) (condition_of d.now)) rows.new }
 {
     if is_joined(c) {
-        fill(rows, count, heavy(c), d, turned);
+        put_row(rows, count, heavy(c), d, turned);
         let (row, rest) = rows.split_at_mut(count);
-        fill(rest, count, light(c), d, turned);
-        let _count = join(row, rest, c, d, turned);
+        put_row(rest, count, light(c), d, turned);
+        let _count = put_joined_row(row, rest, c, d, turned);
     } else {
-        let _count = put_unit(rows, c, d, turned);
+        let _count = put_unit_row(rows, c, d, turned);
     }
 }
 
@@ -214,6 +214,6 @@ pub(crate) fn is_derived_within<const ANSWERS: usize>(c: &Cond, d: &Cond, turned
 {
     let mut rows = [false; ANSWERS];
     let count = parts(d);
-    fill(&mut rows, count, c, d, turned);
+    put_row(&mut rows, count, c, d, turned);
     rows[count - 1]
 }

@@ -162,6 +162,28 @@ fn number(n: i64) -> Cond {
     Cond::Eq(A1, Term::Const(n))
 }
 
+/// Joins a condition with a copy of itself, so many times over: by `and`, by `or`, or by each in turn.
+fn doubled(
+    alloc: Global,
+    start: Cond,
+    times: u32,
+    by_and: bool,
+    in_turn: bool,
+) -> Result<Cond, NoMemory> {
+    let mut whole = start;
+    let mut is_and = by_and;
+    for _ in 0..times {
+        let twin = whole.copy(alloc)?;
+        whole = if is_and {
+            and(alloc, whole, twin)?
+        } else {
+            or(alloc, whole, twin)?
+        };
+        is_and = is_and != in_turn;
+    }
+    Ok(whole)
+}
+
 #[test]
 fn long_chains_are_decided_soon(rt: HostRuntime) -> Result<(), Fail> {
     let alloc = rt.alloc();
@@ -190,5 +212,49 @@ fn alternations_are_decided_soon(rt: HostRuntime) -> Result<(), Fail> {
     }
     assert!(rt; !row_below(&lower, &upper));
     assert!(rt; row_below(&lower, &lower));
+    Ok(())
+}
+
+// A full `and` of 64 against a full `or` of 64, and trees of 2,047 parts where both take turns.
+#[test]
+fn full_trees_are_decided_soon(rt: HostRuntime) -> Result<(), Fail> {
+    let alloc = rt.alloc();
+    let all = doubled(alloc, number(1), 6, true, false)?;
+    let some = doubled(alloc, number(2), 6, false, false)?;
+    assert!(rt; !row_below(&all, &some));
+    assert!(rt; row_below(&all, &or(alloc, some, number(1))?));
+    let lower = doubled(alloc, number(1), 10, true, true)?;
+    let upper = doubled(alloc, number(2), 10, false, true)?;
+    assert!(rt; !row_below(&lower, &upper));
+    assert!(rt; row_below(&lower, &lower));
+    assert!(rt; row_below(&lower, &or(alloc, upper, number(1))?));
+    Ok(())
+}
+
+// One side is small, so the other may be of any size: rows are then kept for the parts of the small one.
+#[test]
+fn small_conditions_are_below_large_ones(rt: HostRuntime) -> Result<(), Fail> {
+    let alloc = rt.alloc();
+    let large = doubled(alloc, or(alloc, number(2), number(3))?, 16, true, true)?;
+    assert!(rt; row_below(&number(3), &large));
+    assert!(rt; !row_below(&number(4), &large));
+    let all = doubled(alloc, and(alloc, number(3), number(4))?, 4, true, false)?;
+    assert!(rt; row_below(&all, &large));
+    Ok(())
+}
+
+// Both are so large that their tops are taken apart first.
+#[test]
+fn large_conditions_are_taken_apart(rt: HostRuntime) -> Result<(), Fail> {
+    let alloc = rt.alloc();
+    let one = doubled(alloc, number(1), 16, true, true)?;
+    let other = doubled(alloc, number(2), 16, true, true)?;
+    let all = and(alloc, number(5), one.copy(alloc)?)?;
+    let some = or(alloc, number(5), other.copy(alloc)?)?;
+    assert!(rt; row_below(&all, &some));
+    let either = or(alloc, number(6), one)?;
+    assert!(rt; !row_below(&either, &some));
+    let both = and(alloc, number(7), other)?;
+    assert!(rt; !row_below(&all, &both));
     Ok(())
 }

@@ -5,8 +5,8 @@ use Rattle.cond_lattice.proofs.RowLists.{some_parts, other_answer}
 use Rattle.cond_lattice.proofs.RowRoom.{few_parts}
 use Rattle.cond_lattice.proofs.rows.is_derived_within.Goals as goal
 
-pub fill-requires-clause-count : goal.fill-requires-clause-count
-fill-requires-clause-count g c =
+pub put_row-requires-clause-count : goal.put_row-requires-clause-count
+put_row-requires-clause-count g c =
     let few : parts_of (condition_of c.args.d.now) ≤ g.row.ANSWERS = few_parts (condition_of c.args.c.now) (condition_of c.args.d.now) _ c.requires.room in
     omega arith
 
@@ -25,4 +25,4 @@ pub returns : goal.returns
 returns g c =
     let some : 1 ≤ parts_of (condition_of c.args.d.now) = some_parts _ in
     let few : parts_of (condition_of c.args.d.now) ≤ g.row.ANSWERS = few_parts (condition_of c.args.c.now) (condition_of c.args.d.now) _ c.requires.room in
-    other_answer c.args.turned (condition_of c.args.c.now) (condition_of c.args.d.now) c.fill.new.rows (c.parts-count.result - 1) (omega arith) c.fill.ensures
+    other_answer c.args.turned (condition_of c.args.c.now) (condition_of c.args.d.now) c.put_row.new.rows (c.parts-count.result - 1) (omega arith) c.put_row.ensures
