@@ -37,7 +37,7 @@ pub(crate) fn is_derived(c: &Cond, d: &Cond) -> bool
     }
 }
 
-/// The same, by the rule that each of the two calls for.
+/// The same for conditions whose rows have no room, by the rules that their tops call for.
 #[cycle(decisions)]
 fn is_derived_apart(c: &Cond, d: &Cond) -> bool
     ensures { result ≡ rules.is_derived (condition_of c.now) (condition_of d.now) }

@@ -2,7 +2,6 @@ ghost use Rattle.std.specs.Prelude.{◌≡◌, ◌+◌, ◌-◌, ◌*◌, ◌^�
 ghost use Rattle.gx_base.specs.Conditions.{condition_of, is_false};
 ghost use Rattle.cond_lattice.specs.Derivations.{is_derived};
 ghost use Rattle.cond_lattice.specs.Simple.{is_true};
-ghost use Rattle.cond_lattice.specs.Rows as along;
 ghost use Rattle.cond_lattice.specs.Rows.{faced, parts_of, row_for, rows_of, heavy_of, light_of, is_joined, is_and, AreSides, Begins, lower_answer_of, upper_answer_of};
 
 use crate::same::same_condition;
@@ -45,7 +44,7 @@ pub(crate) fn rows_wanted(cond: &Cond) -> usize
     }
 }
 
-/// The side that wants more rows.
+/// The side that wants more rows, which is made first.
 fn heavy(cond: &Cond) -> &Cond
     ensures { condition_of result.now ≡ heavy_of (condition_of cond.now) }
 {
@@ -166,25 +165,25 @@ fn put_joined_row(row: &mut [bool], other: &[bool], c: &Cond, d: &Cond, turned: 
 }
 
 /// By its two sides, an `and` is below what one of them is below, and an `or` below what both are below.
-fn lower_answer(first: bool, second: bool, is_and: bool) -> bool
-    ensures { result ≡ lower_answer_of is_and first second }
+fn lower_answer(heavy: bool, light: bool, is_and: bool) -> bool
+    ensures { result ≡ lower_answer_of is_and heavy light }
 {
     if is_and {
-        first || second
+        heavy || light
     } else {
-        first && second
+        heavy && light
     }
 }
 
 /// What is below an `and` is below both its sides. What is below an `or` is below one of them, or is below
 /// it by its own sides.
-fn upper_answer(first: bool, second: bool, own: bool, is_and: bool) -> bool
-    ensures { result ≡ upper_answer_of is_and first second own }
+fn upper_answer(left: bool, right: bool, own: bool, is_and: bool) -> bool
+    ensures { result ≡ upper_answer_of is_and left right own }
 {
     if is_and {
-        first && second
+        left && right
     } else {
-        first || second || own
+        left || right || own
     }
 }
 
@@ -205,7 +204,8 @@ fn put_row(rows: &mut [bool], count: usize, c: &Cond, d: &Cond, turned: bool)
     }
 }
 
-/// Whether c is below d, or turned over so, where so many answers are enough.
+/// Whether c is below d, both turned over or neither, where so many answers are enough. They stand on the
+/// stack, so this isn't to become a part of its callers, which call themselves.
 #[inline(never)]
 pub(crate) fn is_derived_within<const ANSWERS: usize>(c: &Cond, d: &Cond, turned: bool) -> bool
     requires room { rows_of (condition_of c.now) * parts_of (condition_of d.now) ≤ ANSWERS }

@@ -424,16 +424,11 @@ foreign_rows : (kind : Kind) (rows : RowMap) → HasKindRows kind rows → (firs
     → (is_method (kind_number kind) first && is_method (kind_number kind) second) ≡ false → row_of rows first second ≡ plain.False
 foreign_rows kind rows own first second = false_row kind first second (finite.get rows (first, second)) (own.each first second)
 
-not_both : (a b : Bool) → (a ≡ true → b ≡ true → ⊥) → (a && b) ≡ false
-not_both true true h = absurd (h refl refl)
-not_both true false h = refl
-not_both false b h = refl
-
 -- a table that was read is printable
 pub read_table-printable : (wanted : List Kind) (bytes : List ℕ) (kind : Kind) (rows : RowMap) → IsTableText wanted bytes kind rows → IsPrintableTable kind (row_of rows)
 read_table-printable wanted bytes kind rows read =
     let own : HasKindRows kind rows = lines_read wanted Untyped (Typed kind rows) (lines_of bytes) read tt in
     record {
       each = λ first second. printable_row kind first second (finite.get rows (first, second)) (own.each first second);
-      foreign = λ first second other. foreign_rows kind rows own first second (not_both (is_method (kind_number kind) first) (is_method (kind_number kind) second) other);
+      keeps_to_kind = foreign_rows kind rows own;
     }
