@@ -94,7 +94,7 @@ or_right_above (Or x y) a b h =
     and_from _ _ (or_right_above x a b p.0) (or_right_above y a b p.1)
 or_right_above _ a b h = or_right _ _ h
 
-and_left_below : (a b d : Condition) → is_derived a d ≡ true → is_derived (And a b) d ≡ true
+pub and_left_below : (a b d : Condition) → is_derived a d ≡ true → is_derived (And a b) d ≡ true
 and_left_below a b True h = refl
 and_left_below a b (And e f) h =
     let p = and_parts (is_derived a e) (is_derived a f) (sym (is_derived-and a e f) ∙ h) in
@@ -102,7 +102,7 @@ and_left_below a b (And e f) h =
 and_left_below a b (Or e f) h = or_left _ _ (or_left _ _ (or_left _ _ h))
 and_left_below a b _ h = or_left _ _ h
 
-and_right_below : (a b d : Condition) → is_derived b d ≡ true → is_derived (And a b) d ≡ true
+pub and_right_below : (a b d : Condition) → is_derived b d ≡ true → is_derived (And a b) d ≡ true
 and_right_below a b True h = refl
 and_right_below a b (And e f) h =
     let p = and_parts (is_derived b e) (is_derived b f) (sym (is_derived-and b e f) ∙ h) in

@@ -72,7 +72,7 @@ pub record HasRoom (c : Condition) (n len : ℕ) : Type 0 where
   pub whole : n ≤ len
   pub light : rows_of (light_of c) * n ≤ len - n
 
-pub has_room : (c : Condition) (n len : ℕ) → is_joined c ≡ true → 1 ≤ n → rows_of c * n ≤ len → len ≤ 1048576 → HasRoom c n len
+pub has_room : (c : Condition) (n len : ℕ) → is_joined c ≡ true → 1 ≤ n → rows_of c * n ≤ len → len ≤ 4194304 → HasRoom c n len
 has_room c n len e some room few =
     let s : IsSplit (rows_of (heavy_of c)) (rows_of (light_of c)) (rows_of c) = is_split c e in
     let at_most : rows_of c * 1 ≤ rows_of c * n = mul-le (rows_of c) 1 (rows_of c) n (omega arith) some in

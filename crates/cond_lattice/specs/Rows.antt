@@ -85,3 +85,13 @@ abbrev pub light_of : Condition → Condition
 light_of (And x y) = lighter x y
 light_of (Or x y) = lighter x y
 light_of c = c
+
+-- a member of c is below d: what stands under the `and`s at the top of c
+abbrev pub is_member_below : Condition → Condition → Bool
+is_member_below (And x y) d = is_member_below x d || is_member_below y d
+is_member_below c d = is_derived c d
+
+-- c is below a member of d: what stands under the `or`s at the top of d
+abbrev pub is_below_member : Condition → Condition → Bool
+is_below_member c (Or x y) = is_below_member c x || is_below_member c y
+is_below_member c d = is_derived c d

@@ -12,7 +12,7 @@ use gx_base::Cond;
 // Turned over, the order is the same the other way: then `and` counts as `or`, and `true` as `false`.
 
 /// How many answers may be kept at once.
-pub(crate) const MOST_ANSWERS: usize = 1_048_576;
+pub(crate) const MOST_ANSWERS: usize = 4_194_304;
 
 /// The number of parts.
 pub(crate) fn parts(cond: &Cond) -> usize

@@ -247,8 +247,8 @@ fn small_conditions_are_below_large_ones(rt: HostRuntime) -> Result<(), Fail> {
 #[test]
 fn large_conditions_are_taken_apart(rt: HostRuntime) -> Result<(), Fail> {
     let alloc = rt.alloc();
-    let one = doubled(alloc, number(1), 16, true, true)?;
-    let other = doubled(alloc, number(2), 16, true, true)?;
+    let one = doubled(alloc, number(1), 17, true, true)?;
+    let other = doubled(alloc, number(2), 17, true, true)?;
     let all = and(alloc, number(5), one.copy(alloc)?)?;
     let some = or(alloc, number(5), other.copy(alloc)?)?;
     assert!(rt; row_below(&all, &some));
