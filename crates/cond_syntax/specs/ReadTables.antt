@@ -1,5 +1,5 @@
--- Tables that were read are printable.
-use Rattle.std.specs.Prelude.{◌≡◌, ℕ, zero, suc, ℤ, pos, neg_ℤ, nat_abs, max, ◌+◌, ◌-◌, ◌*◌, ◌^◌, ◌<◌, ◌≤◌, Bool, true, false, cond, ◌&&◌, ◌==◌, nat_le, nat_lt, List, [], ◌∷◌, length, map, Option, Some, None, IfSome}
+-- Tables that were read are printable, and of a wanted kind.
+use Rattle.std.specs.Prelude.{◌≡◌, ℕ, zero, suc, ℤ, pos, neg_ℤ, nat_abs, max, ◌+◌, ◌-◌, ◌*◌, ◌^◌, ◌<◌, ◌≤◌, Bool, true, false, cond, ◌&&◌, ◌==◌, nat_le, nat_lt, List, [], ◌∷◌, length, map, Option, Some, None, IfSome, Contains}
 use Rattle.std.proofs.Common.{refl, sym, ap, ap₂, subst, inl, inr, arith}
 use Rattle.std.proofs.Math.Nat.{pow-le-pow_right, pow-suc}
 use Rattle.std.proofs.lemmas.Bool.{leb-true, lt-ltb, le-leb}
@@ -432,3 +432,23 @@ read_table-printable wanted bytes kind rows read =
       each = λ first second. printable_row kind first second (finite.get rows (first, second)) (own.each first second);
       keeps_to_kind = foreign_rows kind rows own;
     }
+
+-- ---- the kind
+
+-- the kind that has been read, if one has, is wanted
+abbrev HasWantedKind : List Kind → SoFar → Type 0
+HasWantedKind wanted Untyped = Unit {0}
+HasWantedKind wanted (Typed kind rows) = Contains wanted kind
+
+line_keeps_kind : {wanted : List Kind} {before after : SoFar} {line : List ℕ} → IsRead wanted before line after → HasWantedKind wanted before → HasWantedKind wanted after
+line_keeps_kind (skipped e) h = h
+line_keeps_kind (type_line seen is wants) h = wants.wants
+line_keeps_kind (row seen is methods spells new) h = h
+
+lines_keep_kind : (wanted : List Kind) (before after : SoFar) (lines : List (List ℕ)) → AreRead wanted before lines after → HasWantedKind wanted before → HasWantedKind wanted after
+lines_keep_kind wanted before after [] read h = subst (HasWantedKind wanted) read h
+lines_keep_kind wanted before after (line ∷ lines) read h = lines_keep_kind wanted read.0 after lines read.2 (line_keeps_kind read.1 h)
+
+-- a table that was read is of a wanted kind
+pub read_table-wanted : (wanted : List Kind) (bytes : List ℕ) (kind : Kind) (rows : RowMap) → IsTableText wanted bytes kind rows → Contains wanted kind
+read_table-wanted wanted bytes kind rows read = lines_keep_kind wanted Untyped (Typed kind rows) (lines_of bytes) read tt

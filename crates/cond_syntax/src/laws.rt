@@ -76,3 +76,8 @@ pub fn printed_tables_are_read_back()
 pub fn read_tables_are_printable()
     ensures { (wanted : List Kind) (bytes : List ℕ) (kind : Kind) (rows : RowMap) → IsTableText wanted bytes kind rows → IsPrintableTable kind (row_of rows) }
 {}
+
+/// The kind of a table that was read is one of those that were wanted.
+pub fn read_tables_are_of_wanted_kinds()
+    ensures { (wanted : List Kind) (bytes : List ℕ) (kind : Kind) (rows : RowMap) → IsTableText wanted bytes kind rows → Contains wanted kind }
+{}

@@ -411,10 +411,13 @@ fn read_and_print(
     bytes: &[u8],
     wanted: &[Kind],
 ) -> Result<(Kind, Table, String), Fail>
-    // What is printed of a table that was read is read back, with the same rows, wherever its kind is wanted.
-    ensures { IfOk result (λ x. (kinds : List Kind) → Contains kinds x.0 → IsReadBack kinds (string_bytes x.2) x.0 (row_of x.1)) }
+    // What is printed of a table that was read is read back, with the same rows, wherever its kind is wanted, and so
+    // where the same kinds are wanted.
+    ensures wherever_wanted { IfOk result (λ x. (kinds : List Kind) → Contains kinds x.0 → IsReadBack kinds (string_bytes x.2) x.0 (row_of x.1)) }
+    ensures as_wanted { IfOk result (λ x. IsReadBack wanted.now (string_bytes x.2) x.0 (row_of x.1)) }
 {
     cond_syntax::laws::read_tables_are_printable();
+    cond_syntax::laws::read_tables_are_of_wanted_kinds();
     let (kind, table) = read_table(alloc, bytes, wanted)?;
     let printed = print_table(alloc, kind, &table)?;
     Ok((kind, table, printed))
