@@ -1,6 +1,6 @@
 -- A table of a class below General names no state function of a later call.
-use Rattle.std.specs.Prelude.{◌≡◌, ◌≢◌, ℕ, ◌+◌, ◌<◌, ◌≤◌, Bool, true, false, ◌&&◌, ◌||◌, ◌==◌, nat_le, nat_lt, if◌then◌else◌, length, map, refl}
-use Rattle.std.proofs.Common.{zero, suc, sym, ◌∙◌, ap, subst, arith, rules, tests}
+use Rattle.std.specs.Prelude.{◌≡◌, ◌≢◌, ℕ, ◌+◌, ◌<◌, ◌≤◌, Bool, true, false, ◌&&◌, ◌||◌, ◌==◌, if◌then◌else◌, length, map, refl}
+use Rattle.std.proofs.Common.{zero, suc, sym, ◌∙◌, ap, subst, arith}
 use Rattle.std.specs.Cmp.{unsigned_Decides}
 use Rattle.std.specs.List.{range_with_len}
 use Rattle.gx_base.specs.declared.conditions.Side.TheVariants.{First, Second}
@@ -10,6 +10,7 @@ use Rattle.gx_base.specs.Conditions.{Condition, True, False, Eq, Ne, Lt, Le, And
 use Rattle.gx_base.specs.Below.{names_state, term_names}
 use Rattle.gx_base.specs.Methods.{first_method, words_of, is_method}
 use Rattle.gx_base.specs.Tables.{Rows, KeepsToKind}
+use Rattle.gx_base.proofs.MethodPlaces.{within_of}
 use Rattle.cond_lattice.specs.declared.grades.Grade.{Grade}
 use Rattle.cond_lattice.specs.declared.grades.Grade.TheVariants.{Simple, Online, General}
 use Rattle.cond_lattice.specs.Grades.{are_across, is_conjunction, is_simple, grade_of, greater, greatest, first_grade, table_grade}
@@ -90,18 +91,13 @@ grade_at : (f : ℕ → Grade) (first count : ℕ) (m : ℕ) → first ≤ m →
 grade_at f first zero m low high n = absurd (omega arith)
 grade_at f first (suc count) m low high n = grade_here f first count m (first == m) refl low (λ next rest. grade_at f (first + 1) count m next (omega arith) rest) n
 
-in_range : (kind m : ℕ) → is_method kind m ≡ true → (first_method kind ≤ m) × (m < first_method kind + length (words_of kind))
-in_range kind m h =
-    let p : (nat_le (first_method kind) m ≡ true) × (nat_lt m (first_method kind + length (words_of kind)) ≡ true) = both_true _ _ h in
-    (search (rules, tests), search (rules, tests))
-
 blind_by : (kind : ℕ) (rows : Rows) (first second : ℕ) (b : Bool) → (is_method kind first && is_method kind second) ≡ b → table_grade kind rows ≢ General → KeepsToKind kind rows → names_state Second (rows first second) ≡ false
 blind_by kind rows first second true q n k =
     let p : (is_method kind first ≡ true) × (is_method kind second ≡ true) = both_true (is_method kind first) (is_method kind second) q in
-    let x : (first_method kind ≤ first) × (first < first_method kind + length (words_of kind)) = in_range kind first p.0 in
-    let y : (first_method kind ≤ second) × (second < first_method kind + length (words_of kind)) = in_range kind second p.1 in
-    let row : first_grade kind rows first ≢ General = grade_at (first_grade kind rows) (first_method kind) (length (words_of kind)) first x.0 x.1 n in
-    grade_blind (rows first second) (grade_at (λ other. grade_of (rows first other)) (first_method kind) (length (words_of kind)) second y.0 y.1 row)
+    let x = within_of kind first p.0 in
+    let y = within_of kind second p.1 in
+    let row : first_grade kind rows first ≢ General = grade_at (first_grade kind rows) (first_method kind) (length (words_of kind)) first x.from x.upto n in
+    grade_blind (rows first second) (grade_at (λ other. grade_of (rows first other)) (first_method kind) (length (words_of kind)) second y.from y.upto row)
 blind_by kind rows first second false q n k = ap (names_state Second) (k first second q)
 
 -- no row of a table of the kind that isn't General names a state function of its later call
