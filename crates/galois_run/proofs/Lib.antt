@@ -7,7 +7,6 @@ pub mod SerialSteps
 pub mod LeastFirst
 pub mod FlowLineSteps
 pub mod FlowRooms
-pub mod ClassLines
 pub mod RunCauses
 pub mod Refusals
 pub mod FaultyFiles

@@ -4,10 +4,10 @@ use Rattle.gx_base.specs.Methods.{methods_of}
 use Rattle.gx_base.specs.TableRows.{row_of}
 use Rattle.gx_base.proofs.MethodPlaces.{methods_from}
 use Rattle.galois_run.specs.Classifying.{first_lines}
-use Rattle.galois_run.proofs.ClassLines.{one_more_lines}
+use Rattle.cond_text.proofs.PrintedRows.{one_more_piece}
 use Rattle.galois_run.proofs.classifying.classify.Goals as goal
 
 pub loop-first-preserved : goal.loop-first-preserved
 loop-first-preserved c =
-    one_more_lines (first_lines c.args.kind (row_of c.args.table.now)) (methods_of (kind_number c.args.kind)) c.loop-first.place c.in-Some.first
+    one_more_piece (first_lines c.args.kind (row_of c.args.table.now)) (methods_of (kind_number c.args.kind)) c.loop-first.place c.in-Some.first
     _ _ _ (methods_from (kind_number c.args.kind) c.loop-first.place c.in-Some.first (sym c.in-Some.ensures)) c.in_ok-put_first.ensures c.loop-first.invariant

@@ -4,11 +4,11 @@ use Rattle.gx_base.specs.Methods.{methods_of}
 use Rattle.gx_base.specs.TableRows.{row_of}
 use Rattle.gx_base.proofs.MethodPlaces.{methods_from}
 use Rattle.galois_run.specs.Classifying.{row_line}
-use Rattle.galois_run.proofs.ClassLines.{one_more_lines}
+use Rattle.cond_text.proofs.PrintedRows.{one_more_piece}
 use Rattle.galois_run.proofs.classifying.put_first.Goals as goal
 
 pub loop-second-preserved : goal.loop-second-preserved
 loop-second-preserved c =
     let put : c.put_row.new.text.items ≡ c.loop-second.text.items ++ row_line (row_of c.args.table.now) c.args.first c.in-Some.second = search rules in
-    one_more_lines (row_line (row_of c.args.table.now) c.args.first) (methods_of (kind_number c.args.kind)) c.loop-second.place c.in-Some.second
+    one_more_piece (row_line (row_of c.args.table.now) c.args.first) (methods_of (kind_number c.args.kind)) c.loop-second.place c.in-Some.second
     _ _ _ (methods_from (kind_number c.args.kind) c.loop-second.place c.in-Some.second (sym c.in-Some.ensures)) put c.loop-second.invariant
