@@ -1,13 +1,12 @@
 -- What the class of a table says of its rows.
-use Rattle.std.specs.Prelude.{◌≡◌, ℕ, zero, suc, ◌+◌, ◌<◌, ◌≤◌, Bool, true, false, length, map, refl, cond}
+use Rattle.std.specs.Prelude.{◌≡◌, ℕ, zero, suc, ◌+◌, ◌<◌, ◌≤◌, Bool, true, false, nat_le, nat_lt, length, map, refl, cond}
 use Rattle.std.specs.List.{range_with_len}
 use Rattle.std.proofs.Common.{inl, inr, arith, subst}
-use Rattle.std.proofs.lemmas.Bool.{cases_eq}
+use Rattle.std.proofs.lemmas.Bool.{and_parts, leb-true, ltb-true, cases_eq}
 use Rattle.gx_base.specs.declared.conditions.Side.TheVariants.{Second}
 use Rattle.gx_base.specs.Below.{names_state}
 use Rattle.gx_base.specs.Methods.{first_method, words_of, methods_of, is_method}
 use Rattle.gx_base.specs.Tables.{Rows}
-use Rattle.gx_base.proofs.MethodPlaces.{within_of}
 use Rattle.cond_lattice.specs.declared.grades.Grade.{Grade}
 use Rattle.cond_lattice.specs.declared.grades.Grade.TheVariants.{Simple, Online, General}
 use Rattle.cond_lattice.specs.Grades.{is_simple, grade_of, greater, greatest, first_grade, table_grade}
@@ -50,8 +49,8 @@ in_range f a (suc n) k from upto =
 
 at_most_methods : (f : ℕ → Grade) (kind method : ℕ) → is_method kind method ≡ true → IsAtMost (f method) (greatest (map f (methods_of kind)))
 at_most_methods f kind method known =
-    let within = within_of kind method known in
-    in_range f (first_method kind) (length (words_of kind)) method within.from within.upto
+    let p = and_parts (nat_le (first_method kind) method) (nat_lt method (first_method kind + length (words_of kind))) known in
+    in_range f (first_method kind) (length (words_of kind)) method (leb-true (first_method kind) method p.0) (ltb-true method (first_method kind + length (words_of kind)) p.1)
 
 at_most_both : (g h k : Grade) → IsAtMost g h → IsAtMost h k → IsAtMost g k
 at_most_both Simple h k e f = refl
