@@ -2,7 +2,6 @@ pub mod SameLemmas
 pub mod Derived
 pub mod RowSteps
 pub mod TurnedLaws
-pub mod MemberLaws
 pub mod RowLists
 pub mod RowRoom
 pub mod Standing

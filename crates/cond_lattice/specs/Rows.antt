@@ -22,20 +22,6 @@ parts_of (And x y) = parts_of x + parts_of y + 1
 parts_of (Or x y) = parts_of x + parts_of y + 1
 parts_of _ = 1
 
--- the answers of a test for each part of a condition, a part after its sides
-abbrev pub answers : (Condition → Bool) → Condition → List Bool
-answers test (And x y) = answers test x ++ answers test y ++ test (And x y) ∷ []
-answers test (Or x y) = answers test x ++ answers test y ++ test (Or x y) ∷ []
-answers test c = test c ∷ []
-
--- the row of c and d, both turned over or neither: for each part of d whether c is below it
-abbrev pub row_for : Bool → Condition → Condition → List Bool
-row_for turned c d = answers (is_derived (faced turned c)) (faced turned d)
-
--- a list begins with another
-abbrev pub Begins : List Bool → List Bool → Type 0
-Begins front row = row ≡ front ++ drop (length front) row
-
 -- a condition is an `and` or an `or` of these two
 abbrev pub AreSides : Condition → Condition → Condition → Type 0
 AreSides c x y = (c ≡ And x y) ⊎ (c ≡ Or x y)
@@ -44,6 +30,35 @@ abbrev pub is_joined : Condition → Bool
 is_joined (And x y) = true
 is_joined (Or x y) = true
 is_joined _ = false
+
+-- an `and` or an `or` of more parts than the limit, which is taken apart into its sides
+abbrev pub splits : ℕ → Condition → Bool
+splits limit c = is_joined c && nat_lt limit (parts_of c)
+
+-- how many answers a row for this condition has
+abbrev pub places_of : ℕ → Condition → ℕ
+places_of limit (And x y) = if nat_lt limit (parts_of x + parts_of y + 1) then places_of limit x + places_of limit y + 1 else 1
+places_of limit (Or x y) = if nat_lt limit (parts_of x + parts_of y + 1) then places_of limit x + places_of limit y + 1 else 1
+places_of limit _ = 1
+
+-- The answers of a test for a condition and, where it is taken apart, for its sides before. With the limit 0 they are
+-- those for all parts of it.
+abbrev pub answers : ℕ → (Condition → Bool) → Condition → List Bool
+answers limit test (And x y) =
+    if nat_lt limit (parts_of x + parts_of y + 1) then answers limit test x ++ answers limit test y ++ test (And x y) ∷ []
+    else test (And x y) ∷ []
+answers limit test (Or x y) =
+    if nat_lt limit (parts_of x + parts_of y + 1) then answers limit test x ++ answers limit test y ++ test (Or x y) ∷ []
+    else test (Or x y) ∷ []
+answers limit test c = test c ∷ []
+
+-- the row of c and d, both turned over or neither: whether c is below d, and before this the same for its sides
+abbrev pub row_for : ℕ → Bool → Condition → Condition → List Bool
+row_for limit turned c d = answers limit (is_derived (faced turned c)) (faced turned d)
+
+-- a list begins with another
+abbrev pub Begins : List Bool → List Bool → Type 0
+Begins front row = row ≡ front ++ drop (length front) row
 
 abbrev pub is_and : Condition → Bool
 is_and (And x y) = true
@@ -85,13 +100,3 @@ abbrev pub light_of : Condition → Condition
 light_of (And x y) = lighter x y
 light_of (Or x y) = lighter x y
 light_of c = c
-
--- a member of c is below d: what stands under the `and`s at the top of c
-abbrev pub is_member_below : Condition → Condition → Bool
-is_member_below (And x y) d = is_member_below x d || is_member_below y d
-is_member_below c d = is_derived c d
-
--- c is below a member of d: what stands under the `or`s at the top of d
-abbrev pub is_below_member : Condition → Condition → Bool
-is_below_member c (Or x y) = is_below_member c x || is_below_member c y
-is_below_member c d = is_derived c d

@@ -5,6 +5,7 @@ ghost use Rattle.gx_base.specs.declared.conditions.Side.TheVariants.{First, Seco
 ghost use Rattle.gx_base.specs.declared.conditions.Term.TheVariants.{Value as ValueTerm};
 ghost use Rattle.gx_base.specs.Conditions.{condition_of, Ne as NeCondition, And as AndCondition};
 
+use crate::decisions::{is_derived, is_derived_apart, is_derived_large};
 use crate::{
     Grade, NotBelow, below, class, join, meet, row_below, simple_below, strengthen, table_class,
 };
@@ -243,18 +244,28 @@ fn small_conditions_are_below_large_ones(rt: HostRuntime) -> Result<(), Fail> {
     Ok(())
 }
 
-// Both are so large that their tops are taken apart first.
+/// Whether each way of deciding says this of c and d, whatever the room.
+fn is_told(c: &Cond, d: &Cond, answer: bool) -> bool {
+    is_derived(c, d) == answer
+        && is_derived_apart(c, d) == answer
+        && is_derived_large::<4096, 0>(c, d) == Some(answer)
+        && is_derived_large::<4096, 20>(c, d) == Some(answer)
+        && is_derived_large::<256, 100>(c, d) == Some(answer)
+        && is_derived_large::<4, 4>(c, d) == None
+}
+
+// The rows' way has room for all parts here; in the other ways they are asked for part by part.
 #[test]
-fn large_conditions_are_taken_apart(rt: HostRuntime) -> Result<(), Fail> {
+fn large_conditions_are_decided_alike(rt: HostRuntime) -> Result<(), Fail> {
     let alloc = rt.alloc();
-    let one = doubled(alloc, number(1), 17, true, true)?;
-    let other = doubled(alloc, number(2), 17, true, true)?;
-    let all = and(alloc, number(5), one.copy(alloc)?)?;
-    let some = or(alloc, number(5), other.copy(alloc)?)?;
-    assert!(rt; row_below(&all, &some));
-    let either = or(alloc, number(6), one)?;
-    assert!(rt; !row_below(&either, &some));
-    let both = and(alloc, number(7), other)?;
-    assert!(rt; !row_below(&all, &both));
+    let either = doubled(alloc, or(alloc, number(1), number(2))?, 4, true, true)?;
+    let both = doubled(alloc, and(alloc, number(2), number(3))?, 4, false, true)?;
+    let wider = or(alloc, both.copy(alloc)?, either.copy(alloc)?)?;
+    assert!(rt; is_told(&either, &either, true));
+    assert!(rt; is_told(&either, &both, false));
+    assert!(rt; is_told(&both, &either, true));
+    assert!(rt; is_told(&either, &wider, true));
+    assert!(rt; is_told(&wider, &either, true));
+    assert!(rt; is_told(&wider, &both, false));
     Ok(())
 }
