@@ -1,7 +1,9 @@
 //! The order of conditions: their classes, the bounds of those that locks can keep, and when one
 //! condition, or a table of them, is below another.
 //!
-//! `specs/Grades.antt` has the classes, `specs/Derivations.antt` the rules by which a row is below another.
+//! To start with: `specs/Grades.antt` has the classes, `specs/Simple.antt` the order and the bounds of simple
+//! conditions, `specs/Derivations.antt` the rules by which a row is below another, `specs/Tables.antt` what they
+//! say of whole tables.
 #![tactic(auto)]
 
 mod classes;
