@@ -4,8 +4,10 @@ use Rattle.std.proofs.Common.{sym, ap, ◌∙◌, inl, inr, subst}
 use Rattle.std.proofs.lemmas.Bool.{and_parts, and_from, or_cases, or_left, or_right, not-true}
 use Rattle.gx_base.specs.declared.conditions.Term.{Term}
 use Rattle.gx_base.specs.Conditions.{Condition, True, False, Ne, And, Or, holds, is_false}
+use Rattle.gx_base.specs.Below.{IsBelow}
 use Rattle.cond_lattice.specs.Grades.{are_across, is_simple}
 use Rattle.cond_lattice.specs.Simple.{stands_in, all_stand_in, simply_below, Implies, is_near, joined_with, is_true, meet_of, join_of, strengthened, IsMeet, IsJoin}
+use Rattle.cond_lattice.proofs.GradeLemmas.{simple_nameless}
 use Rattle.cond_lattice.proofs.Standing.{stands_by, stands_in-joined_with, is_plain, plain_simple, joined_plain}
 use Rattle.cond_lattice.proofs.Implied.{is_false-is, simple_plain, stands_implies, false_implies, implies-simply_below}
 
@@ -179,5 +181,14 @@ strengthens _ = false_strengthens _
 pub strengthened-simple : (c : Condition) → is_simple (strengthened c) ≡ true
 strengthened-simple c = (strengthens c).simple
 
-pub strengthened-below : (c : Condition) → Implies (strengthened c) c
-strengthened-below c = (strengthens c).below
+nameless_names : (t u : Bool) → t ≡ false → t ≡ true → u ≡ true
+nameless_names t u never named = absurd (cc)
+
+strengthened-IsBelow : (c : Condition) → IsBelow (strengthened c) c
+strengthened-IsBelow c = record {
+  truth = (strengthens c).below;
+  terms = λ side named. nameless_names _ _ (simple_nameless side (strengthened c) (strengthened-simple c)) named;
+}
+
+pub is_strengthened : (c s : Condition) → s ≡ strengthened c → IsBelow s c
+is_strengthened c s e = subst (λ (z : Condition). IsBelow z c) (sym e) (strengthened-IsBelow c)

@@ -6,5 +6,6 @@ pub mod RowLists
 pub mod RowRoom
 pub mod Standing
 pub mod Implied
+pub mod GradeLemmas
 pub mod Bounds
 pub mod TableLemmas

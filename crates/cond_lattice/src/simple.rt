@@ -1,4 +1,5 @@
 ghost use Rattle.std.specs.Prelude.{◌≡◌, ◌↔◌, true, IfOk, IsTrue};
+ghost use Rattle.gx_base.specs.Below.{IsBelow};
 ghost use Rattle.gx_base.specs.Conditions.{condition_of, is_false};
 ghost use Rattle.cond_lattice.specs.Grades.{is_simple};
 ghost use Rattle.cond_lattice.specs.Simple as order;
@@ -137,12 +138,14 @@ pub fn join(alloc: Global, c: &Cond, d: &Cond) -> Result<Cond, NoMemory>
     joined_with(alloc, Cond::True, c, d)
 }
 
-/// A simple condition below any condition: of an `And` the meet of both sides, of an `Or` one side, the
-/// left one unless nothing but `False` is left of it.
+/// A simple condition below any condition. `True` and `False` stay, and so does an inequality of a value of
+/// the first call and one of the second. Every other comparison and each `Not` becomes `False`. Of an `And`
+/// both sides are strengthened, and it is their meet. Of an `Or` it is the strengthened left side, and where
+/// that is `False` the strengthened right one.
 pub fn strengthen(alloc: Global, cond: &Cond) -> Result<Cond, NoMemory>
     ensures rule { IfOk result (λ c. condition_of c ≡ strengthened (condition_of cond.now)) }
     ensures simple { IfOk result (λ c. is_simple (condition_of c) ≡ true) }
-    ensures below { IfOk result (λ c. Implies (condition_of c) (condition_of cond.now)) }
+    ensures below { IfOk result (λ c. IsBelow (condition_of c) (condition_of cond.now)) }
 {
     match cond {
         Cond::True => Ok(Cond::True),
