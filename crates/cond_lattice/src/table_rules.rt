@@ -1,5 +1,5 @@
 ghost use Rattle.std.specs.Prelude.{◌≡◌, ℕ, ◌<◌, true, IfNone, IfSome, OnOk, IfErr};
-ghost use Rattle.gx_base.specs.Below.{AreBelow};
+ghost use Rattle.gx_base.specs.Below.{IsBelow, AreBelow};
 ghost use Rattle.gx_base.specs.Kinds.{kind_number};
 ghost use Rattle.gx_base.specs.Methods.{is_method};
 ghost use Rattle.gx_base.specs.TableRows.{row_of};
@@ -36,6 +36,8 @@ fn first_not_below(kind: Kind, c: &Table, d: &Table, first: u32) -> Option<u32>
 pub fn below(kind: Kind, c: &Table, d: &Table) -> Result<(), NotBelow>
     ensures ok { OnOk result (AreRowsBelow (kind_number kind) (row_of c.now) (row_of d.now)) }
     ensures refused { IfErr result (λ pair. IsFirstNotBelow (kind_number kind) (row_of c.now) (row_of d.now) pair.first pair.second) }
+    ensures sound_rows { OnOk result ((first second : ℕ) → is_method (kind_number kind) first ≡ true → is_method (kind_number kind) second ≡ true
+        → IsBelow (row_of c.now first second) (row_of d.now first second)) }
     ensures sound { OnOk result (KeepsToKind (kind_number kind) (row_of c.now) → AreBelow (row_of c.now) (row_of d.now)) }
 {
     let mut place = 0;
