@@ -4,4 +4,3 @@ pub mod Derivations
 pub mod Rows
 pub mod Simple
 pub mod Tables
-pub mod GradeLaws
