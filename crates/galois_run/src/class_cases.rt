@@ -1,10 +1,17 @@
 //! Worked cases of `classify`, and of tables that are read from their texts.
 
+ghost use Rattle.std.specs.Prelude.{IfOk, OnOk};
+ghost use Rattle.gx_base.specs.declared.kinds.Kind.TheVariants.{Flow};
+ghost use Rattle.gx_base.specs.Kinds.{kind_number};
+ghost use Rattle.gx_base.specs.TableRows.{row_of};
+ghost use Rattle.gx_base.specs.Tables.{IsValid};
+
 use crate::Status;
 use crate::tests::{NONE, Trouble, run_words};
 use cond_lattice::{NotBelow, below};
 use cond_text::{TextFault, read_table};
-use gx_base::{Kind, Table};
+use flow_graph::FlowShard;
+use gx_base::{Choice, Kind, SeqType, Table};
 use std::alloc::Global;
 use std::test::Fail;
 
@@ -139,5 +146,42 @@ fn below_and_conditions(rt: HostRuntime) -> Result<(), Fail> {
         })
     );
     assert_eq!(rt; below(Kind::Set, &precise, &precise), Ok(()));
+    Ok(())
+}
+
+/// The flow table with this text, and whether it is below the precise one that flow shards ship.
+fn read_and_compare(alloc: Global, text: &str) -> Result<(Table, Result<(), NotBelow>), Fail>
+    // A table that was read is valid where it is below a valid one: its rows of other methods are false.
+    ensures { IfOk result (λ x. OnOk x.1 (IsValid (kind_number Flow) (row_of x.0))) }
+{
+    cond_syntax::laws::read_tables_are_printable();
+    gate_core::laws::shipped_tables_serve_gates();
+    gx_base::laws::below_valid_is_valid();
+    let shipped = FlowShard::shipped(alloc, Kind::Flow, Choice::Precise)?;
+    let (kind, table) = read_table(alloc, text.as_bytes(), &[Kind::Flow])?;
+    let answer = below(kind, &table, &shipped);
+    Ok((table, answer))
+}
+
+/// What is told of a flow table with this text beside the shipped one.
+fn compared(alloc: Global, text: &str) -> Result<Result<(), NotBelow>, Fail> {
+    let (_, answer) = read_and_compare(alloc, text)?;
+    Ok(answer)
+}
+
+#[test]
+fn read_tables_beside_the_shipped_one(rt: HostRuntime) -> Result<(), Fail> {
+    let alloc = rt.alloc();
+    assert_eq!(rt; compared(alloc, "type flow\n")?, Ok(()));
+    let apart = "type flow\nheight relabel : a2 != a1 and b1 = 0\ngain gain : a1 != a2\n";
+    assert_eq!(rt; compared(alloc, apart)?, Ok(()));
+    let loose = "type flow\ngain gain : true\ngain excess : a1 != a2 or p1 = 0\n";
+    assert_eq!(rt;
+        compared(alloc, loose)?,
+        Err(NotBelow {
+            first: 19,
+            second: 18
+        })
+    );
     Ok(())
 }
