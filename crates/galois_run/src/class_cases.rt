@@ -1,10 +1,10 @@
 //! Worked cases of `classify`, and of tables that are read from their texts.
 
-ghost use Rattle.std.specs.Prelude.{IfOk, OnOk};
-ghost use Rattle.gx_base.specs.declared.kinds.Kind.TheVariants.{Flow};
+ghost use Rattle.std.specs.Prelude.{[], ◌∷◌, IfOk, OnOk};
 ghost use Rattle.gx_base.specs.Kinds.{kind_number};
-ghost use Rattle.gx_base.specs.TableRows.{row_of};
+ghost use Rattle.gx_base.specs.TableRows.{RowMap, row_of};
 ghost use Rattle.gx_base.specs.Tables.{IsValid};
+ghost use Rattle.cond_syntax.specs.TableTexts.{IsTableText};
 
 use crate::Status;
 use crate::tests::{NONE, Trouble, run_words};
@@ -149,35 +149,41 @@ fn below_and_conditions(rt: HostRuntime) -> Result<(), Fail> {
     Ok(())
 }
 
-/// The flow table with this text, and whether it is below the precise one that flow shards ship.
-fn read_and_compare(alloc: Global, text: &str) -> Result<(Table, Result<(), NotBelow>), Fail>
-    // A table that was read is valid where it is below a valid one: its rows of other methods are false.
-    ensures { IfOk result (λ x. OnOk x.1 (IsValid (kind_number Flow) (row_of x.0))) }
+/// Whether the table of a text is below a valid one, row by row.
+fn compare(
+    alloc: Global,
+    kind: Kind,
+    bytes: &[u8],
+    valid: &Table,
+) -> Result<Result<(), NotBelow>, Fail>
+    requires { IsValid (kind_number kind) (row_of valid.now) }
+    // Then it is valid too: a table that was read is false for methods of other kinds.
+    ensures { IfOk result (λ answer. OnOk answer ((rows : RowMap) × IsTableText (kind ∷ []) bytes.now kind rows × IsValid (kind_number kind) (row_of rows))) }
 {
     cond_syntax::laws::read_tables_are_printable();
-    gate_core::laws::shipped_tables_serve_gates();
+    cond_syntax::laws::read_tables_are_of_wanted_kinds();
     gx_base::laws::below_valid_is_valid();
-    let shipped = FlowShard::shipped(alloc, Kind::Flow, Choice::Precise)?;
-    let (kind, table) = read_table(alloc, text.as_bytes(), &[Kind::Flow])?;
-    let answer = below(kind, &table, &shipped);
-    Ok((table, answer))
-}
-
-/// What is told of a flow table with this text beside the shipped one.
-fn compared(alloc: Global, text: &str) -> Result<Result<(), NotBelow>, Fail> {
-    let (_, answer) = read_and_compare(alloc, text)?;
+    let (read, table) = read_table(alloc, bytes, &[kind])?;
+    let answer = below(read, &table, valid);
     Ok(answer)
 }
 
+/// Whether the flow table of a text is below the precise one that flow shards ship.
+fn compare_with_shipped(alloc: Global, text: &str) -> Result<Result<(), NotBelow>, Fail> {
+    gate_core::laws::shipped_tables_serve_gates();
+    let shipped = FlowShard::shipped(alloc, Kind::Flow, Choice::Precise)?;
+    compare(alloc, Kind::Flow, text.as_bytes(), &shipped)
+}
+
 #[test]
-fn read_tables_beside_the_shipped_one(rt: HostRuntime) -> Result<(), Fail> {
+fn flow_tables_beside_the_shipped_one(rt: HostRuntime) -> Result<(), Fail> {
     let alloc = rt.alloc();
-    assert_eq!(rt; compared(alloc, "type flow\n")?, Ok(()));
+    assert_eq!(rt; compare_with_shipped(alloc, "type flow\n")?, Ok(()));
     let apart = "type flow\nheight relabel : a2 != a1 and b1 = 0\ngain gain : a1 != a2\n";
-    assert_eq!(rt; compared(alloc, apart)?, Ok(()));
+    assert_eq!(rt; compare_with_shipped(alloc, apart)?, Ok(()));
     let loose = "type flow\ngain gain : true\ngain excess : a1 != a2 or p1 = 0\n";
     assert_eq!(rt;
-        compared(alloc, loose)?,
+        compare_with_shipped(alloc, loose)?,
         Err(NotBelow {
             first: 19,
             second: 18
