@@ -117,7 +117,7 @@ unit_same is_same no_and no_or (And a b) h = let no : is_same (And a b) ≡ fals
 unit_same is_same no_and no_or (Or a b) h = let no : is_same (Or a b) ≡ false = no_or a b in absurd (cc)
 unit_same is_same no_and no_or _ h = h
 
-same_derived : (c d : Condition) → same_condition c d ≡ true → is_derived c d ≡ true
+pub same_derived : (c d : Condition) → same_condition c d ≡ true → is_derived c d ≡ true
 same_derived False d e = refl
 same_derived (And a b) (And c d) e =
     let p = and_parts (same_condition a c) (same_condition b d) e in

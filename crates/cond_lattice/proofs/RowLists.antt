@@ -23,16 +23,16 @@ pub record AreTaken (limit : ℕ) (c x y : Condition) : Type 0 where
   pub sides : AreSides c x y
   pub splits : splits limit c ≡ true
 
-pub record HasSides (limit : ℕ) (c : Condition) : Type 0 where
+pub record IsTakenApart (limit : ℕ) (c : Condition) : Type 0 where
   pub first : Condition
   pub second : Condition
   pub taken : AreTaken limit c first second
 
-split_or_not : (limit : ℕ) (c x y : Condition) (b : Bool) → AreSides c x y → splits limit c ≡ b → (splits limit c ≡ false) ⊎ HasSides limit c
+split_or_not : (limit : ℕ) (c x y : Condition) (b : Bool) → AreSides c x y → splits limit c ≡ b → (splits limit c ≡ false) ⊎ IsTakenApart limit c
 split_or_not limit c x y true s e = inr (record { first = x; second = y; taken = record { sides = s; splits = e } })
 split_or_not limit c x y false s e = inl e
 
-has_sides : (limit : ℕ) (c : Condition) → (splits limit c ≡ false) ⊎ HasSides limit c
+has_sides : (limit : ℕ) (c : Condition) → (splits limit c ≡ false) ⊎ IsTakenApart limit c
 has_sides limit (And x y) = split_or_not limit (And x y) x y (splits limit (And x y)) (inl refl) refl
 has_sides limit (Or x y) = split_or_not limit (Or x y) x y (splits limit (Or x y)) (inr refl) refl
 has_sides limit _ = inl refl
@@ -63,7 +63,7 @@ leaf_places limit _ e = refl
 pub some_places : (limit : ℕ) (c : Condition) → 1 ≤ places_of limit c
 some_places limit c = by_split (has_sides limit c)
   where
-    by_split : ((splits limit c ≡ false) ⊎ HasSides limit c) → 1 ≤ places_of limit c
+    by_split : ((splits limit c ≡ false) ⊎ IsTakenApart limit c) → 1 ≤ places_of limit c
     by_split (inl e) = let one : places_of limit c ≡ 1 = leaf_places limit c e in omega arith
     by_split (inr h) = let sum : places_of limit c ≡ places_of limit h.first + places_of limit h.second + 1 = sides_places limit c h.first h.second h.taken in omega arith
 
@@ -168,7 +168,7 @@ last_of_sides A B rest v m n k e f g =
 pub row_last : (limit : ℕ) (t : Bool) (c d : Condition) (rest : List Bool) (n : ℕ) → n + 1 ≡ places_of limit d → slice_index_or (row_for limit t c d ++ rest) n false ≡ is_derived (faced t c) (faced t d)
 row_last limit t c d rest n e = by_sides (has_sides limit d)
   where
-    by_sides : ((splits limit d ≡ false) ⊎ HasSides limit d) → slice_index_or (row_for limit t c d ++ rest) n false ≡ is_derived (faced t c) (faced t d)
+    by_sides : ((splits limit d ≡ false) ⊎ IsTakenApart limit d) → slice_index_or (row_for limit t c d ++ rest) n false ≡ is_derived (faced t c) (faced t d)
     by_sides (inl leaf) =
         let one : places_of limit d ≡ 1 = leaf_places limit d leaf in
         let first : n ≡ 0 = omega arith in

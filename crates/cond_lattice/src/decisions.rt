@@ -14,7 +14,7 @@ const FEW_ANSWERS: usize = 1_024;
 const MANY_ANSWERS: usize = 16_384;
 
 /// So many are kept beside the others for parts that aren't taken apart.
-const PART_ANSWERS: usize = 1_048_576;
+pub(crate) const PART_ANSWERS: usize = 1_048_576;
 
 /// How many answers are kept at once for c and d, where d is taken apart down to so many parts.
 fn answers_wanted(c: &Cond, d: &Cond, limit: usize) -> usize
@@ -29,6 +29,9 @@ fn answers_wanted(c: &Cond, d: &Cond, limit: usize) -> usize
 pub(crate) fn is_derived(c: &Cond, d: &Cond) -> bool
     ensures { result ≡ rules.is_derived (condition_of c.now) (condition_of d.now) }
 {
+    if same_condition(c, d) {
+        return true;
+    }
     let upright = answers_wanted(c, d, 0);
     let over = answers_wanted(d, c, 0);
     if upright <= over && upright <= MOST_ANSWERS {
@@ -59,8 +62,8 @@ fn is_derived_whole(c: &Cond, d: &Cond, turned: bool, answers: usize) -> bool
 }
 
 /// Whether c is below d, where both have too many parts for rows. Then rows are kept for the large parts
-/// of one of them, and the small ones are decided by themselves, in n * m steps times the depth of the
-/// other one. None where even the large parts are too many.
+/// of one of them, and the small ones are decided by themselves, in n * m steps times the depths of both.
+/// None where even the large parts are too many.
 pub(crate) fn is_derived_large<const ROWS: usize, const PARTS: usize>(
     c: &Cond,
     d: &Cond,
@@ -80,8 +83,9 @@ pub(crate) fn is_derived_large<const ROWS: usize, const PARTS: usize>(
     None
 }
 
-/// Whether c is below d, by the rules that the two call for. Conditions that want this have more parts than
-/// a text that may be read has signs.
+/// Whether c is below d, by the rules that the two call for, which may lead to one pair of parts along many
+/// ways. Conditions at most 64 deep want this only where each has some eighty million parts, more than a
+/// text of 64 MiB can spell.
 #[cycle(decisions)]
 pub(crate) fn is_derived_apart(c: &Cond, d: &Cond) -> bool
     ensures { result ≡ rules.is_derived (condition_of c.now) (condition_of d.now) }

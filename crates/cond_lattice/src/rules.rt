@@ -11,14 +11,13 @@ use gx_base::{Cond, Side};
 /// Whether a row is below another by the rules: a derivation exists, and each state function that the
 /// first row names stands in the second.
 ///
-/// No memory is taken, but for stack: rows of answers stand there, a KiB for conditions as tables have them,
-/// and 5 MiB at most. With n parts in one row and m in the other it takes n * m steps of 12 to 20 ns each,
-/// since each pair of parts is looked at once; to find the order in which rows are made, each is walked
-/// through as often as it is deep. Where each has more than some 200,000 parts, rows have room for the large
-/// parts of one alone, and it takes n * m steps times the depth of the other. Of the pairs that were
-/// measured, all at most 64 deep: chains of 64, a full `and` of 64 against a full `or` of 64, and alternating
-/// combs 63 deep took less than a millisecond; alternating full trees of 2,047 parts 0.07 s; combs of combs
-/// of combs of 18,521 parts 4.7 s; alternating full trees of 65,535 parts 89 s.
+/// No memory is taken, but for stack: answers are kept there, a KiB of them for conditions as tables have
+/// them, and 5 MiB at most. Where c has n parts and d has m, it takes n * m steps, since each pair of parts
+/// is looked at once; before, both are walked through, and c again for each level of its depth. Where each
+/// has more than some 200,000 parts, answers are kept for the large parts of one of them alone, and it takes
+/// n * m steps times the depths of both. A `not` is one part, and is compared as a whole. Measured, with
+/// conditions at most 64 deep: the costliest of some thousand parts, alternating full trees of 2,047, took
+/// 0.07 s, and combs of combs of combs of 18,521 parts 4.7 s, which is 14 ns a pair (`docs/DECISIONS.md`).
 pub fn row_below(c: &Cond, d: &Cond) -> bool
     ensures rules { IsTrue result ↔ IsRowBelow (condition_of c.now) (condition_of d.now) }
     ensures sound { IsTrue result → IsBelow (condition_of c.now) (condition_of d.now) }

@@ -32,7 +32,8 @@ fn first_not_below(kind: Kind, c: &Table, d: &Table, first: u32) -> Option<u32>
     None
 }
 
-/// Whether each row of a kind's methods is below the other table's, and else the first that isn't. Takes no memory.
+/// Whether each row of a kind's methods is below the other table's, and else the first that isn't. Takes no memory, but for the
+/// stack that `row_below` takes.
 pub fn below(kind: Kind, c: &Table, d: &Table) -> Result<(), NotBelow>
     ensures ok { OnOk result (AreRowsBelow (kind_number kind) (row_of c.now) (row_of d.now)) }
     ensures refused { IfErr result (λ pair. IsFirstNotBelow (kind_number kind) (row_of c.now) (row_of d.now) pair.first pair.second) }

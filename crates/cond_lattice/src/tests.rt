@@ -5,7 +5,8 @@ ghost use Rattle.gx_base.specs.declared.conditions.Side.TheVariants.{First, Seco
 ghost use Rattle.gx_base.specs.declared.conditions.Term.TheVariants.{Value as ValueTerm};
 ghost use Rattle.gx_base.specs.Conditions.{condition_of, Ne as NeCondition, And as AndCondition};
 
-use crate::decisions::{is_derived, is_derived_apart, is_derived_large};
+use crate::decisions::{PART_ANSWERS, is_derived, is_derived_apart, is_derived_large};
+use crate::rows::MOST_ANSWERS;
 use crate::{
     Grade, NotBelow, below, class, join, meet, row_below, simple_below, strengthen, table_class,
 };
@@ -251,6 +252,7 @@ fn is_told(c: &Cond, d: &Cond, answer: bool) -> bool {
         && is_derived_large::<4096, 0>(c, d) == Some(answer)
         && is_derived_large::<4096, 20>(c, d) == Some(answer)
         && is_derived_large::<256, 100>(c, d) == Some(answer)
+        && is_derived_large::<MOST_ANSWERS, PART_ANSWERS>(c, d) == Some(answer)
         && is_derived_large::<4, 4>(c, d) == None
 }
 
@@ -267,5 +269,9 @@ fn large_conditions_are_decided_alike(rt: HostRuntime) -> Result<(), Fail> {
     assert!(rt; is_told(&either, &wider, true));
     assert!(rt; is_told(&wider, &either, true));
     assert!(rt; is_told(&wider, &both, false));
+    // Room for the rows of one way only.
+    assert_eq!(rt; is_derived_large::<10, 0>(&either, &number(2)), Some(false));
+    assert_eq!(rt; is_derived_large::<10, 0>(&number(2), &either), Some(true));
+    assert_eq!(rt; is_derived_large::<10, 0>(&number(3), &either), Some(false));
     Ok(())
 }

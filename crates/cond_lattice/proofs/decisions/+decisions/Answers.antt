@@ -1,9 +1,13 @@
 use Rattle.std.proofs.Common.{sym, ap, ◌∙◌}
 use Rattle.gx_base.specs.Conditions.{condition_of}
 use Rattle.cond_lattice.specs.Derivations.{is_derived}
-use Rattle.cond_lattice.proofs.Derived.{is_derived-true}
+use Rattle.cond_lattice.proofs.Derived.{is_derived-true, same_derived}
 use Rattle.cond_lattice.proofs.TurnedLaws.{is_derived-turned}
 use Rattle.cond_lattice.proofs.decisions.+decisions.Goals as goal
+
+pub is_derived-returns-then-same_condition : goal.is_derived-returns-then-same_condition
+is_derived-returns-then-same_condition t c =
+    sym (same_derived (condition_of c.args.c.now) (condition_of c.args.d.now) (sym c.same_condition.ensures ∙ c.if-same_condition.true))
 
 pub is_derived-returns-then-over-le-MOST_ANSWERS : goal.is_derived-returns-then-over-le-MOST_ANSWERS
 is_derived-returns-then-over-le-MOST_ANSWERS t c =
