@@ -17,7 +17,7 @@ use gx_base::{Cond, Side};
 /// has more than some 200,000 parts, answers are kept for the large parts of one of them alone, and it takes
 /// n * m steps times the depths of both. A `not` is one part, and is compared as a whole. Measured, with
 /// conditions at most 64 deep: the costliest of some thousand parts, alternating full trees of 2,047, took
-/// 0.07 s, and combs of combs of combs of 18,521 parts 4.7 s, which is 14 ns a pair (`docs/DECISIONS.md`).
+/// 0.07 s, and combs of combs of combs of 18,521 parts 7 s, which is 20 ns a pair (`docs/DECISIONS.md`).
 pub fn row_below(c: &Cond, d: &Cond) -> bool
     ensures rules { IsTrue result ↔ IsRowBelow (condition_of c.now) (condition_of d.now) }
     ensures sound { IsTrue result → IsBelow (condition_of c.now) (condition_of d.now) }
