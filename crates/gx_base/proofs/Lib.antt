@@ -1,3 +1,5 @@
 pub mod RowPlaces
 pub mod MethodSearch
 pub mod MethodPlaces
+pub mod replays
+pub mod bodies

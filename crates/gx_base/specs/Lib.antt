@@ -38,4 +38,4 @@ pub mod Methods
 pub mod ShippedTables
 pub mod ShippedLaws
 pub mod ForeignMethods
-pub mod BodyLaws
+pub mod BodyRuns
