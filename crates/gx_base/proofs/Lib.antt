@@ -3,3 +3,4 @@ pub mod MethodSearch
 pub mod MethodPlaces
 pub mod replays
 pub mod bodies
+pub mod serial

@@ -34,6 +34,7 @@ pub mod Plans
 pub mod Replays
 pub mod Outcomes
 pub mod SerialIterations
+pub mod SerialRuns
 pub mod Methods
 pub mod ShippedTables
 pub mod ShippedLaws

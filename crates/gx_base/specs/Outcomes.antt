@@ -33,6 +33,11 @@ abbrev pub order_of : List Commit → List Item
 order_of [] = []
 order_of (c ∷ cs) = c.item ∷ order_of cs
 
+-- what their bodies did
+abbrev pub outcomes_of : List Commit → List Outcome
+outcomes_of [] = []
+outcomes_of (c ∷ cs) = c.outcome ∷ outcomes_of cs
+
 -- the steps of all commits
 abbrev pub journal : List Commit → List Step
 journal [] = []

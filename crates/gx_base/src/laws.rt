@@ -18,10 +18,12 @@ ghost use Rattle.gx_base.specs.Kinds.{kind_number};
 ghost use Rattle.gx_base.specs.Methods.{is_method};
 ghost use Rattle.gx_base.specs.ForeignMethods.{ChangesNothing};
 ghost use Rattle.gx_base.specs.ShippedTables.{shipped_rows};
-ghost use Rattle.gx_base.specs.Plans.{Plan, Done, Follows};
+ghost use Rattle.gx_base.specs.Plans.{Plan, Done, Operator, Follows};
+ghost use Rattle.gx_base.specs.Outcomes.{Commit, outcomes_of, journal};
 ghost use Rattle.gx_base.specs.Replays.{after, Legal, start_of, AreCalls, part, Replays};
 ghost use Rattle.gx_base.specs.BodyRuns.{then_step, RunsTo};
-ghost use Rattle.gx_base.specs.SerialIterations.{body};
+ghost use Rattle.gx_base.specs.SerialIterations.{body, Ended, serial, then_serial};
+ghost use Rattle.gx_base.specs.SerialRuns.{IsSerialRun, IsSerialRunInTwo, AreInTurn, AreRunsOf};
 
 /// The inverse of a call gives the state before it.
 pub fn inverse_undoes()
@@ -105,4 +107,25 @@ pub fn runs_go_on_by_what_follows()
     ensures calls { (plan rest : Plan) (left : Option Reply → Plan) (steps : List Step) (pushes : List Item) (room : ℕ) (call : Call) (reply : Reply) → RunsTo plan steps pushes rest → Follows rest (acts.Call room call) left → RunsTo plan (then_step steps room call reply) pushes (left (Some reply)) }
     ensures pushes { (plan rest : Plan) (left : Option Reply → Plan) (steps : List Step) (pushes : List Item) (item : Item) → RunsTo plan steps pushes rest → Follows rest (acts.Push item) left → RunsTo plan steps (pushes ++ item ∷ []) (left None) }
     ensures ends { (plan rest : Plan) (left : Option Reply → Plan) (steps : List Step) (pushes : List Item) → RunsTo plan steps pushes rest → Follows rest acts.Done left → RunsTo plan steps pushes Done }
+{}
+
+/// A serial iteration of an order is that of any prefix of it, and then of the rest from where that ended.
+pub fn serial_iteration_splits()
+    ensures { (op : Operator) (states : ℕ → State) (ready xs ys : List Item) → serial op states ready (xs ++ ys) ≡ then_serial op ys (serial op states ready xs) }
+{}
+
+/// A serial run is one of any prefix of its commits, and then one of the others from where that ended.
+pub fn serial_runs_split_and_join()
+    ensures split { (op : Operator) (states : ℕ → State) (ready : List Item) (front rear : List Commit) (ended : Ended) → IsSerialRun op states ready (front ++ rear) ended → IsSerialRunInTwo op states ready front rear ended }
+    ensures joined { (op : Operator) (states : ℕ → State) (ready : List Item) (front rear : List Commit) (ended : Ended) → IsSerialRunInTwo op states ready front rear ended → IsSerialRun op states ready (front ++ rear) ended }
+{}
+
+/// The journal of a serial run replays from its start to its end.
+pub fn journals_replay()
+    ensures { (op : Operator) (states : ℕ → State) (ready : List Item) (commits : List Commit) (ended : Ended) → IsSerialRun op states ready commits ended → Replays states (journal commits) ended.states }
+{}
+
+/// Commits in turn, each of a run of its body by replies, are a serial run where their journal replays.
+pub fn runs_in_turn_are_serial()
+    ensures { (op : Operator) (states ends : ℕ → State) (ready left : List Item) (commits : List Commit) → AreInTurn op.ordered ready commits left → AreRunsOf op commits → Replays states (journal commits) ends → IsSerialRun op states ready commits (record { states = ends; ready = left; outcomes = outcomes_of commits }) }
 {}

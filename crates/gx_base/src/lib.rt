@@ -20,7 +20,7 @@ mod tables;
 #[cfg(test)]
 mod tests;
 
-pub use acts::{Act, Entry, Step};
+pub use acts::{Act, Commit, Entry, Step};
 pub use calls::{Call, Made, Reply, Room, Seen, Spot};
 pub use conditions::{Cond, Part, Side, Term, boxed, eval};
 pub use inputs::{InputFault, What};
