@@ -4,3 +4,4 @@ pub mod MethodPlaces
 pub mod replays
 pub mod bodies
 pub mod serial
+pub mod CallerLemmas

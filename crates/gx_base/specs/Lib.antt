@@ -35,6 +35,8 @@ pub mod Replays
 pub mod Outcomes
 pub mod SerialIterations
 pub mod SerialRuns
+pub mod Entries
+pub mod RoomViews
 pub mod Methods
 pub mod ShippedTables
 pub mod ShippedLaws

@@ -20,10 +20,13 @@ ghost use Rattle.gx_base.specs.ForeignMethods.{ChangesNothing};
 ghost use Rattle.gx_base.specs.ShippedTables.{shipped_rows};
 ghost use Rattle.gx_base.specs.Plans.{Plan, Done, Operator, Follows};
 ghost use Rattle.gx_base.specs.Outcomes.{Commit, outcomes_of, journal};
+ghost use Rattle.gx_base.specs.RoomViews.{ReplaysAlone};
 ghost use Rattle.gx_base.specs.Replays.{after, Legal, start_of, AreCalls, part, Replays};
 ghost use Rattle.gx_base.specs.BodyRuns.{then_step, RunsTo};
 ghost use Rattle.gx_base.specs.SerialIterations.{body, Ended, serial, then_serial};
 ghost use Rattle.gx_base.specs.SerialRuns.{IsSerialRun, IsSerialRunInTwo, AreInTurn, AreRunsOf};
+
+use crate::homed::Homed;
 
 /// The inverse of a call gives the state before it.
 pub fn inverse_undoes()
@@ -128,4 +131,11 @@ pub fn journals_replay()
 /// Commits in turn, each of a run of its body by replies, are a serial run where their journal replays.
 pub fn runs_in_turn_are_serial()
     ensures { (op : Operator) (states ends : ℕ → State) (ready left : List Item) (commits : List Commit) → AreInTurn op.ordered ready commits left → AreRunsOf op commits → Replays states (journal commits) ends → IsSerialRun op states ready commits (record { states = ends; ready = left; outcomes = outcomes_of commits }) }
+{}
+
+/// In a lawful value of a room that is no book, the live entries of each worker replay with no other live ones.
+pub fn live_entries_replay_alone<V: Homed>(value: &V)
+    requires lawful { V.lawful value.now }
+    requires gate { (V.told value.now).is_book ≡ false }
+    ensures { (worker : ℕ) → ReplaysAlone (V.told value.now) worker }
 {}
