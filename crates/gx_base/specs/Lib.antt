@@ -34,8 +34,11 @@ pub mod Plans
 pub mod Replays
 pub mod Outcomes
 pub mod SerialIterations
+pub mod SerialRuns
+pub mod Entries
+pub mod RoomViews
 pub mod Methods
 pub mod ShippedTables
 pub mod ShippedLaws
 pub mod ForeignMethods
-pub mod BodyLaws
+pub mod BodyRuns
