@@ -9,9 +9,9 @@ use Rattle.std.specs.FinMap as finite
 use Rattle.gx_base.specs.declared.calls.Call.{Call}
 use Rattle.gx_base.specs.States.{State, row_cmp, first_or_zero, number_at, with_number}
 use Rattle.gx_base.specs.Steps.{next_state, meaning_of}
-use Rattle.gx_base.specs.Deeds.{use_of, next_by}
-use Rattle.gx_base.specs.Wrapping.{below_bits}
-use Rattle.gx_base.specs.Registers.{same_row, same_row-sort, number_at-other}
+use Rattle.gx_base.specs.RegisterUses.{use_of}
+use Rattle.gx_base.specs.RegisterDeeds.{next_by}
+use Rattle.gx_base.proofs.CallerLemmas.{below_bits, same_row, same_row-sort, number_at-other}
 use Rattle.gx_base.specs.Replays.{in_rooms, put}
 use Rattle.flow_graph.specs.declared.shard.FlowShard.{FlowShard}
 use Rattle.flow_graph.specs.FlowState.{state_of}

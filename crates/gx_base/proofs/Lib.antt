@@ -1,3 +1,6 @@
-pub mod RowPlaces
-pub mod MethodSearch
-pub mod MethodPlaces
+pub mod CallerLemmas
+pub mod states
+pub mod methods
+pub mod object_kinds
+pub mod table_lemmas
+pub mod validity
