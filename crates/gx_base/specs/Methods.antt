@@ -1,16 +1,16 @@
 -- The methods of each kind of object, by its number: their numbers and their words.
 use Rattle.std.specs.List.{position_from, range_with_len}
 use Rattle.std.specs.Prelude.{bytes_eq, ℕ, ◌+◌, ◌-◌, Bool, nat_lt, List, length, Option, Some, None, codes, slice_get, if◌then◌else◌}
-use Rattle.gx_base.specs.ObjectKinds.{has_method}
-use Rattle.gx_base.specs.KnownKinds.{known_kinds, kind_at, number_with}
+use Rattle.gx_base.specs.ObjectKinds.{is_among}
+use Rattle.gx_base.specs.KnownKinds.{known_kinds, said_of, number_with}
 
 -- the number of a kind's first method; the others follow one after another
 abbrev pub first_method : ℕ → ℕ
-first_method kind = (kind_at kind).first
+first_method kind = said_of (λ known. known.first) kind
 
 -- the words of a kind's methods, by rising number
 abbrev pub words_of : ℕ → List (List ℕ)
-words_of kind = (kind_at kind).words
+words_of kind = said_of (λ known. known.words) kind
 
 -- the methods of a kind, by rising number
 abbrev pub methods_of : ℕ → List ℕ
@@ -18,7 +18,7 @@ methods_of kind = range_with_len (first_method kind) (length (words_of kind))
 
 -- the kind has a method of this number
 abbrev pub is_method : ℕ → ℕ → Bool
-is_method kind method = has_method (kind_at kind) method
+is_method kind method = is_among (first_method kind) (words_of kind) method
 
 -- the method at a place, from 0
 abbrev pub method_at : ℕ → ℕ → Option ℕ

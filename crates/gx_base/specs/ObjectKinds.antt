@@ -13,9 +13,9 @@ pub record ObjectKind : Type 1 where
   pub may_hold : State → Type 0
   pub has_state_function : Bool
 
--- the kind has a method of this number
-abbrev pub has_method : ObjectKind → ℕ → Bool
-has_method kind method = nat_le kind.first method && nat_lt method (kind.first + length kind.words)
+-- there is a method of this number, where methods have these words, from this number on
+abbrev pub is_among : ℕ → List (List ℕ) → ℕ → Bool
+is_among first words method = nat_le first method && nat_lt method (first + length words)
 
 -- what stands for the numbers that no kind has: it has no methods
 abbrev pub no_kind : ObjectKind

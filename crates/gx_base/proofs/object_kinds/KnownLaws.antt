@@ -5,11 +5,11 @@ use Rattle.gx_base.specs.declared.calls.Call.{Call}
 use Rattle.gx_base.specs.States.{State}
 use Rattle.gx_base.specs.Meanings.{Meaning, IsCall}
 use Rattle.gx_base.specs.ObjectKinds.{ObjectKind, no_kind}
-use Rattle.gx_base.specs.KnownKinds.{known_kinds, kind_among, kind_at}
+use Rattle.gx_base.specs.KnownKinds.{known_kinds, said_among, said_of}
 use Rattle.gx_base.specs.Steps.{meaning_of, Holds, next_state, reply_to, inverse, IsState}
-use Rattle.gx_base.specs.Methods.{is_method}
+use Rattle.gx_base.specs.Methods.{first_method, words_of, is_method}
 use Rattle.gx_base.specs.ForeignMethods.{ChangesNothing}
-use Rattle.gx_base.proofs.object_kinds.MeaningLaws.{MeaningLaws, IsIdle}
+use Rattle.gx_base.proofs.object_kinds.MeaningLaws.{MeaningLaws, LawsOf, IsIdle}
 use Rattle.gx_base.proofs.object_kinds.SetLaws.{set_laws}
 use Rattle.gx_base.proofs.object_kinds.CellsLaws.{cells_laws}
 use Rattle.gx_base.proofs.object_kinds.FlowLaws.{flow_laws}
@@ -19,13 +19,13 @@ use Rattle.gx_base.proofs.object_kinds.DomainLaws.{domain_laws}
 -- the laws of each of these kinds
 abbrev AllLaws : List ObjectKind → Type 0
 AllLaws [] = Unit {0}
-AllLaws (kind ∷ kinds) = MeaningLaws kind × AllLaws kinds
+AllLaws (kind ∷ kinds) = LawsOf kind × AllLaws kinds
 
 -- in the order of the known kinds
 known_laws : AllLaws known_kinds
 known_laws = (set_laws, (cells_laws, (flow_laws, (point_laws, (domain_laws, tt)))))
 
-no_laws : MeaningLaws no_kind
+no_laws : LawsOf no_kind
 no_laws = record {
   keeps_kind = λ s c. refl;
   keeps_state = λ s c h f. h;
@@ -34,12 +34,14 @@ no_laws = record {
   unseen = λ e s x. refl;
 }
 
-laws_among : (kinds : List ObjectKind) → AllLaws kinds → (place : ℕ) → MeaningLaws (kind_among kinds place)
+laws_among : (kinds : List ObjectKind) → AllLaws kinds → (place : ℕ)
+    → MeaningLaws (said_among (λ kind. kind.first) kinds place) (said_among (λ kind. kind.words) kinds place) (said_among (λ kind. kind.meaning) kinds place)
+    (λ s. said_among (λ kind. kind.may_hold s) kinds place) (said_among (λ kind. kind.has_state_function) kinds place)
 laws_among [] laws place = no_laws
 laws_among (kind ∷ kinds) laws zero = laws.0
 laws_among (kind ∷ kinds) laws (suc place) = laws_among kinds laws.1 place
 
-pub laws_of : (kind : ℕ) → MeaningLaws (kind_at kind)
+pub laws_of : (kind : ℕ) → MeaningLaws (first_method kind) (words_of kind) (meaning_of kind) (Holds kind) (said_of (λ known. known.has_state_function) kind)
 laws_of kind = laws_among known_kinds known_laws kind
 
 pub kind-next_state : (s : State) (c : Call) → (next_state s c).kind ≡ s.kind

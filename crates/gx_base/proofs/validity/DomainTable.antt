@@ -11,7 +11,7 @@ use Rattle.gx_base.specs.RegisterDeeds.{Deed, Reads, Adds, Sets, On, next_by, re
 use Rattle.gx_base.specs.DomainKind.{DomainDeed, Weigh, Total, Move, Credit, Sum, Nothing, domain_deed, dom, domain_use, aimed, domain_next, domain_meaning}
 use Rattle.gx_base.proofs.validity.Swapping.{Effect, SwapsBy, first_still, second_still, both_still, same_int, both, not_true}
 use Rattle.gx_base.proofs.validity.RegisterTable.{UsesSwap, swap_numbers_differ, swap_either, deed_test}
-use Rattle.gx_base.proofs.object_kinds.DomainLaws.{dom_by, aimed-same, aimed-IsCall, domain_next-HoldsNumbers}
+use Rattle.gx_base.proofs.object_kinds.DomainLaws.{IsSum, dom_stays, aimed-same, aimed-IsCall, domain_next-HoldsNumbers}
 use Rattle.gx_base.specs.PreciseTables.{domain_row, domain_rows}
 use Rattle.gx_base.specs.Tables.{uses_state}
 use Rattle.gx_base.proofs.validity.KindLaws.{TableLaws}
@@ -19,12 +19,6 @@ use Rattle.gx_base.proofs.validity.KindLaws.{TableLaws}
 -- a call of a domain book, as an effect
 abbrev pub domain_effect : DomainDeed → Call → Effect
 domain_effect d c = record { next = λ s. domain_next d s c; reply = λ s. reply_by (domain_use d) s (aimed d s c) }
-
--- the deeds on sums
-abbrev pub IsSum : DomainDeed → Type 0
-IsSum Move = ⊥
-IsSum Nothing = ⊥
-IsSum _ = Unit {0}
 
 -- what a method on sums does with the sum
 abbrev pub sum_deed : DomainDeed → Deed
@@ -39,14 +33,6 @@ use_is Move i = absurd i
 use_is Credit i = refl
 use_is Sum i = refl
 use_is Nothing i = absurd i
-
-pub dom_stays : (d : DomainDeed) → IsSum d → (s : State) (c : Call) (x : ℤ) → dom (domain_next d s c) x ≡ dom s x
-dom_stays Weigh i s c x = dom_by Adds s (aimed Weigh s c) x
-dom_stays Total i s c x = refl
-dom_stays Move i s c x = absurd i
-dom_stays Credit i s c x = dom_by Adds s c x
-dom_stays Sum i s c x = refl
-dom_stays Nothing i s c x = absurd i
 
 -- two deeds on sums aim as they do in the first state
 sums_swap : (d e : DomainDeed) → IsSum d → IsSum e → (s : State) (a b : Call) → UsesSwap (domain_use d) (domain_use e) s (aimed d s a) (aimed e s b) → SwapsBy (domain_effect d a) (domain_effect e b) s
