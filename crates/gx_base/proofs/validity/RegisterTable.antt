@@ -3,19 +3,20 @@ use Rattle.std.specs.Prelude.{◌≡◌, ℕ, ℤ, pos, Bool, true, false, not, 
 use Rattle.std.proofs.Common.{sym, ◌∙◌, ap, subst, inl, inr}
 use Rattle.std.specs.Ordering.{int_eq}
 use Rattle.std.specs.Cmp.{unsigned_Decides}
-use Rattle.std.specs.Int.{w64, int_wrapping_add, int_wrapping_sub}
+use Rattle.std.specs.Int.{w64, int_wrapping_add}
 use Rattle.gx_base.specs.declared.calls.Call.{Call}
 use Rattle.gx_base.specs.declared.calls.Reply.{Reply}
 use Rattle.gx_base.specs.declared.calls.Seen.{Seen}
 use Rattle.gx_base.specs.Conditions.{True, holds}
 use Rattle.gx_base.specs.States.{State, number_at, with_number, HoldsNumbers}
-use Rattle.gx_base.specs.Registers.{same_row, number_at-same, number_at-other, with-with, with-comm, with-number_at, number_at-fits, with_number-HoldsNumbers}
-use Rattle.gx_base.specs.Wrapping.{add-swap, add-zero_of, sub-add, add-fits}
+use Rattle.gx_base.proofs.states.Registers.{same_row, number_at-same, number_at-other, with-with, with-comm, with-number_at, number_at-fits, with_number-HoldsNumbers}
+use Rattle.gx_base.proofs.states.Wrapping.{add-swap, add-zero_of, add-fits}
 use Rattle.gx_base.specs.Meanings.{IsCall, number_reply}
-use Rattle.gx_base.specs.Deeds.{Deed, Reads, Adds, Sets, Use, Nothing, On, use_of, next_by, reply_by, inverse_by, register_meaning}
-use Rattle.gx_base.specs.KindLaws.{TableLaws, MeaningLaws}
+use Rattle.gx_base.specs.RegisterDeeds.{Deed, Reads, Adds, Sets, Use, Nothing, On, next_by, reply_by, register_meaning}
+use Rattle.gx_base.specs.RegisterUses.{use_of}
+use Rattle.gx_base.proofs.validity.KindLaws.{TableLaws}
 use Rattle.gx_base.specs.PreciseTables.{deed_row, use_row, register_rows}
-use Rattle.gx_base.specs.Swapping.{Effect, effect_in, SwapsBy, same_int, differ, numbers_differ}
+use Rattle.gx_base.proofs.validity.Swapping.{Effect, effect_in, SwapsBy, same_int, differ, numbers_differ}
 
 -- the number after a deed, and the answer to it
 abbrev pub number_after : Deed → ℤ → ℤ → ℤ
@@ -198,45 +199,16 @@ swap_uses Nothing v s a b r seen h fa fb t = absurd (cc)
 swap_uses (On i d) Nothing s a b r seen h fa fb t = absurd (cc)
 swap_uses (On i d) (On j e) s a b r seen h fa fb t = swap_sorts i j d e s a b r seen h fa fb (i == j) refl t
 
-pub kind-next_by : (u : Use) (s : State) (c : Call) → (next_by u s c).kind ≡ s.kind
-kind-next_by Nothing s c = refl
-kind-next_by (On i Reads) s c = refl
-kind-next_by (On i Adds) s c = refl
-kind-next_by (On i Sets) s c = refl
-
 -- where a row is true, its calls may be swapped
 pub register_swaps : (kind : ℕ) (s : State) (a b : Call) (r : Reply) (seen : Seen) → HoldsNumbers s → IsCall a → IsCall b
-    → holds (register_rows kind a.method b.method) (record { call = a; reply = (register_meaning kind).reply s a }) (record { call = b; reply = r }) seen ≡ true
-    → SwapsBy (effect_in (register_meaning kind) a) (effect_in (register_meaning kind) b) s
+    → holds (register_rows kind a.method b.method) (record { call = a; reply = (register_meaning (use_of kind)).reply s a }) (record { call = b; reply = r }) seen ≡ true
+    → SwapsBy (effect_in (register_meaning (use_of kind)) a) (effect_in (register_meaning (use_of kind)) b) s
 register_swaps kind s a b r seen h fa fb t = swap_uses (use_of kind a.method) (use_of kind b.method) s a b r seen h fa fb t
 
-pub undone_by : (u : Use) (s : State) (a : Call) → HoldsNumbers s → IsCall a → inverse_by u (next_by u s a) a (reply_by u s a) ≡ s
-undone_by Nothing s a h f = refl
-undone_by (On i Reads) s a h f = refl
-undone_by (On i Adds) s a h f =
-    let k : ℕ × ℤ = (i, a.a) in
-    let y : ℤ = int_wrapping_add w64 (number_at s k) a.b in
-    with-with s k y (int_wrapping_sub w64 (number_at (with_number s k y) k) a.b) ∙ ap (λ x. with_number s k (int_wrapping_sub w64 x a.b)) (number_at-same s k y)
-    ∙ ap (with_number s k) (sub-add (number_at s k) a.b (number_at-fits s k h) f.1) ∙ with-number_at s k h
-undone_by (On i Sets) s a h f = with-with s (i, a.a) a.b (number_at s (i, a.a)) ∙ with-number_at s (i, a.a) h
-
-pub state_by : (u : Use) (s : State) (a : Call) → HoldsNumbers s → IsCall a → HoldsNumbers (next_by u s a)
-state_by Nothing s a h f = h
-state_by (On i Reads) s a h f = h
-state_by (On i Adds) s a h f = with_number-HoldsNumbers s (i, a.a) (int_wrapping_add w64 (number_at s (i, a.a)) a.b) (add-fits (number_at s (i, a.a)) a.b) h
-state_by (On i Sets) s a h f = with_number-HoldsNumbers s (i, a.a) a.b f.1 h
-
 -- the precise table of registers is valid
-pub register_table : (kind : ℕ) → TableLaws (register_meaning kind) HoldsNumbers (register_rows kind)
+pub register_table : (kind : ℕ) → TableLaws (register_meaning (use_of kind)) HoldsNumbers (register_rows kind)
 register_table kind = record {
-  swaps = λ s a b h fa fb t. register_swaps kind s a b ((register_meaning kind).reply ((register_meaning kind).next s a) b) (record { first = pos 0; second = pos 0 }) h fa fb t;
+  swaps = λ s a b h fa fb t. register_swaps kind s a b ((register_meaning (use_of kind)).reply ((register_meaning (use_of kind)).next s a) b) (record { first = pos 0; second = pos 0 }) h fa fb t;
   sees_first = λ s a b h fa fb t l x. refl;
   sees_second = λ s a b h fa fb t l x. refl;
-}
-
-pub register_laws : (kind : ℕ) → MeaningLaws (register_meaning kind) HoldsNumbers
-register_laws kind = record {
-  keeps_kind = λ s c. kind-next_by (use_of kind c.method) s c;
-  keeps_state = λ s c h f. state_by (use_of kind c.method) s c h f;
-  undone = λ s c h f. undone_by (use_of kind c.method) s c h f;
 }

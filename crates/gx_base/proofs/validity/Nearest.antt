@@ -10,11 +10,11 @@ use Rattle.std.specs.List.{list_any}
 use Rattle.std.specs.Int.{int_min, int_max}
 use Rattle.gx_base.specs.declared.calls.Spot.{Spot}
 use Rattle.gx_base.specs.States.{State, row_cmp, row_at, with_row}
-use Rattle.gx_base.specs.Registers.{both_equal, same_row, same_row-is, same_row-sort}
-use Rattle.gx_base.specs.Rows.{row_at-with}
-use Rattle.gx_base.specs.Swapping.{same_int, either, both, not_true, false_of}
+use Rattle.gx_base.proofs.states.Registers.{both_equal, same_row, same_row-is, same_row-sort}
+use Rattle.gx_base.proofs.states.StateRows.{row_at-with}
+use Rattle.gx_base.proofs.validity.Swapping.{same_int, either, both, not_true, false_of}
 use Rattle.gx_base.specs.Spots.{Key, pk, key_cmp, beyond, distance, square, far}
-use Rattle.gx_base.specs.Points.{spot_of, spot_at, nearer, other_at, nearest_of, nearest}
+use Rattle.gx_base.specs.PointKind.{spot_of, spot_at, nearer, other_at, nearest_of, nearest}
 
 -- keys are in a total order
 pub key_cmp_total : IsTotalOrder key_cmp

@@ -7,15 +7,15 @@ use Rattle.gx_base.specs.declared.calls.Spot.{Spot}
 use Rattle.gx_base.specs.declared.calls.Seen.{Seen}
 use Rattle.gx_base.specs.Conditions.{holds}
 use Rattle.gx_base.specs.States.{State, row_at, with_row}
-use Rattle.gx_base.specs.Rows.{row_at-same, written_back}
-use Rattle.gx_base.specs.Meanings.{IsCall}
+use Rattle.gx_base.proofs.states.StateRows.{row_at-same, written_back}
 use Rattle.gx_base.specs.Spots.{beyond, spot_of_call, spot_of_reply}
-use Rattle.gx_base.specs.Acts.{Act, Turn, Look, act_next, act_reply, turns}
-use Rattle.gx_base.specs.Points.{PointDeed, Add, Remove, At, Nearest, Nothing, point_deed, point_act, may_add, point_meaning, place_of, nearest, nearest_reply, spot_of, IsPlace, HoldsPlaces}
-use Rattle.gx_base.specs.Nearest.{Avoids, Behind, beyond-back, nearest-own, nearest-with, nearest-without}
-use Rattle.gx_base.specs.Swapping.{SwapsBy, effect_in, first_still, second_still, both_still, same_int, either, both, not_true, int_eq-comm}
-use Rattle.gx_base.specs.ActLaws.{IsNear, Pair, two_turns, turn_first, turn_second, turn_still, pair_swaps, act_effect, same_content-is, Leaves, act_keeps, act_kind, act_undone}
-use Rattle.gx_base.specs.KindLaws.{TableLaws, MeaningLaws}
+use Rattle.gx_base.specs.RowActions.{RowAction, Turn, Look, action_next, action_reply, turns}
+use Rattle.gx_base.specs.PointKind.{PointDeed, Add, Remove, At, Nearest, Nothing, point_deed, point_action, may_add, point_meaning, place_of, nearest, nearest_reply, spot_of, HoldsPlaces}
+use Rattle.gx_base.proofs.validity.Nearest.{Avoids, Behind, beyond-back, nearest-own, nearest-with, nearest-without}
+use Rattle.gx_base.proofs.validity.Swapping.{SwapsBy, effect_in, first_still, second_still, both_still, same_int, either, both, not_true, int_eq-comm}
+use Rattle.gx_base.proofs.validity.RowActionSwaps.{IsNear, Pair, two_turns, turn_first, turn_second, turn_still, pair_swaps, action_effect}
+use Rattle.gx_base.proofs.states.RowActionLaws.{same_content-is}
+use Rattle.gx_base.proofs.validity.KindLaws.{TableLaws}
 use Rattle.gx_base.specs.PreciseTables.{minus_one, point_row, point_rows}
 
 -- the words of a row about `nearest`, as facts
@@ -41,22 +41,22 @@ found_at : (allowed : Bool) (found : Option (List ℤ)) (s : State) (x : ℤ) �
 found_at allowed found s x t = same_content-is _ _ (both _ _ t).1
 
 -- nearest, and then a turn of the spot's own row
-own_kept : (s : State) (q : Spot) (x : ℤ) (allowed : Bool) (found left : Option (List ℤ)) → int_eq q.id x ≡ true → nearest (act_next (Turn allowed found left) s x) q ≡ nearest s q
+own_kept : (s : State) (q : Spot) (x : ℤ) (allowed : Bool) (found left : Option (List ℤ)) → int_eq q.id x ≡ true → nearest (action_next (Turn allowed found left) s x) q ≡ nearest s q
 own_kept s q x allowed found left e =
     turned_if (turns allowed found s x) q s (with_row s (0, x) left) (λ t. ap (λ y. nearest (with_row s (0, y) left) q) (sym (same_int q.id x e)) ∙ nearest-own s q left)
 
 -- nearest and add
-add_kept : (s : State) (q : Spot) (x : ℤ) (allowed : Bool) (left : Option (List ℤ)) → Behind q (nearest s q) (spot_of x left) → nearest (act_next (Turn allowed None left) s x) q ≡ nearest s q
+add_kept : (s : State) (q : Spot) (x : ℤ) (allowed : Bool) (left : Option (List ℤ)) → Behind q (nearest s q) (spot_of x left) → nearest (action_next (Turn allowed None left) s x) q ≡ nearest s q
 add_kept s q x allowed left b =
     turned_if (turns allowed None s x) q s (with_row s (0, x) left) (λ t. nearest-with s q x left (found_at allowed None s x t) b)
 
 -- nearest and remove
-remove_kept : (s : State) (q : Spot) (x : ℤ) (allowed : Bool) (found : Option (List ℤ)) → Avoids (nearest s q) x → nearest (act_next (Turn allowed found None) s x) q ≡ nearest s q
+remove_kept : (s : State) (q : Spot) (x : ℤ) (allowed : Bool) (found : Option (List ℤ)) → Avoids (nearest s q) x → nearest (action_next (Turn allowed found None) s x) q ≡ nearest s q
 remove_kept s q x allowed found a = turned_if (turns allowed found s x) q s (with_row s (0, x) None) (λ t. nearest-without s q x a)
 
 -- add, and then nearest
-add_undone : (s : State) (q : Spot) (x : ℤ) (allowed : Bool) (left : Option (List ℤ)) → Avoids (nearest (act_next (Turn allowed None left) s x) q) x
-    → nearest s q ≡ nearest (act_next (Turn allowed None left) s x) q
+add_undone : (s : State) (q : Spot) (x : ℤ) (allowed : Bool) (left : Option (List ℤ)) → Avoids (nearest (action_next (Turn allowed None left) s x) q) x
+    → nearest s q ≡ nearest (action_next (Turn allowed None left) s x) q
 add_undone s q x allowed left a = back_if (turns allowed None s x) refl a
   where
     back_if : (b : Bool) → turns allowed None s x ≡ b → Avoids (nearest (cond b (with_row s (0, x) left) s) q) x → nearest s q ≡ nearest (cond b (with_row s (0, x) left) s) q
@@ -64,8 +64,8 @@ add_undone s q x allowed left a = back_if (turns allowed None s x) refl a
     back_if false t a = refl
 
 -- remove, and then nearest
-remove_undone : (s : State) (q : Spot) (x : ℤ) (allowed : Bool) (found : Option (List ℤ)) → Behind q (nearest (act_next (Turn allowed found None) s x) q) (spot_of x found)
-    → nearest s q ≡ nearest (act_next (Turn allowed found None) s x) q
+remove_undone : (s : State) (q : Spot) (x : ℤ) (allowed : Bool) (found : Option (List ℤ)) → Behind q (nearest (action_next (Turn allowed found None) s x) q) (spot_of x found)
+    → nearest s q ≡ nearest (action_next (Turn allowed found None) s x) q
 remove_undone s q x allowed found h = back_if (turns allowed found s x) refl h
   where
     back_if : (b : Bool) → turns allowed found s x ≡ b → Behind q (nearest (cond b (with_row s (0, x) None) s) q) (spot_of x found) → nearest s q ≡ nearest (cond b (with_row s (0, x) None) s) q
@@ -75,19 +75,19 @@ remove_undone s q x allowed found h = back_if (turns allowed found s x) refl h
     back_if false t h = refl
 
 -- a call of `nearest` is swapped where its answer stays
-look_first : (s : State) (q : Spot) (x y : ℤ) (act : Act) → nearest (act_next act s y) q ≡ nearest s q → SwapsBy (act_effect (Look (λ u. nearest_reply (nearest u q))) x) (act_effect act y) s
-look_first s q x y act e = first_still (act_effect (Look (λ u. nearest_reply (nearest u q))) x) (act_effect act y) s refl refl (ap nearest_reply e)
+look_first : (s : State) (q : Spot) (x y : ℤ) (act : RowAction) → nearest (action_next act s y) q ≡ nearest s q → SwapsBy (action_effect (Look (λ u. nearest_reply (nearest u q))) x) (action_effect act y) s
+look_first s q x y act e = first_still (action_effect (Look (λ u. nearest_reply (nearest u q))) x) (action_effect act y) s refl refl (ap nearest_reply e)
 
-look_second : (s : State) (q : Spot) (x y : ℤ) (act : Act) → nearest s q ≡ nearest (act_next act s x) q → SwapsBy (act_effect act x) (act_effect (Look (λ u. nearest_reply (nearest u q))) y) s
-look_second s q x y act e = second_still (act_effect act x) (act_effect (Look (λ u. nearest_reply (nearest u q))) y) s refl refl (ap nearest_reply e)
+look_second : (s : State) (q : Spot) (x y : ℤ) (act : RowAction) → nearest s q ≡ nearest (action_next act s x) q → SwapsBy (action_effect act x) (action_effect (Look (λ u. nearest_reply (nearest u q))) y) s
+look_second s q x y act e = second_still (action_effect act x) (action_effect (Look (λ u. nearest_reply (nearest u q))) y) s refl refl (ap nearest_reply e)
 
 -- the four hard pairs
 abbrev pub Row : (d e : PointDeed) (s : State) (a b : Call) (seen : Seen) → Type 0
-Row d e s a b seen = holds (point_row d e) (record { call = a; reply = act_reply (point_act d a) s a.a }) (record { call = b; reply = act_reply (point_act e b) (act_next (point_act d a) s a.a) b.a }) seen ≡ true
+Row d e s a b seen = holds (point_row d e) (record { call = a; reply = action_reply (point_action d a) s a.a }) (record { call = b; reply = action_reply (point_action e b) (action_next (point_action d a) s a.a) b.a }) seen ≡ true
 
 -- two calls of points may be swapped in s
 abbrev pub PointsSwap : (d e : PointDeed) (s : State) (a b : Call) → Type 0
-PointsSwap d e s a b = SwapsBy (act_effect (point_act d a) a.a) (act_effect (point_act e b) b.a) s
+PointsSwap d e s a b = SwapsBy (action_effect (point_action d a) a.a) (action_effect (point_action e b) b.a) s
 
 nearest_add : (s : State) (a b : Call) (seen : Seen) → Row Nearest Add s a b seen → PointsSwap Nearest Add s a b
 nearest_add s a b seen t = by_words (either _ _ t)
@@ -98,17 +98,17 @@ nearest_add s a b seen t = by_words (either _ _ t)
     allowed : Bool
     allowed = may_add b
 
-    add : Act
-    add = point_act Add b
+    add : RowAction
+    add = point_action Add b
 
     o : Option Spot
     o = nearest s q
 
-    by_ids : (int_eq (act_reply add s b.a).p (pos 0) ≡ true) ⊎ (int_eq a.a b.a ≡ true) → nearest (act_next add s b.a) q ≡ nearest s q
+    by_ids : (int_eq (action_reply add s b.a).p (pos 0) ≡ true) ⊎ (int_eq a.a b.a ≡ true) → nearest (action_next add s b.a) q ≡ nearest s q
     by_ids (inl e) = ap (λ u. nearest u q) (turn_still allowed None (place_of b) s b.a e)
     by_ids (inr e) = own_kept s q b.a allowed None (place_of b) e
 
-    by_words : ((int_eq (act_reply add s b.a).p (pos 0) || int_eq a.a b.a) ≡ true)
+    by_words : ((int_eq (action_reply add s b.a).p (pos 0) || int_eq a.a b.a) ≡ true)
         ⊎ ((not (int_eq (nearest_reply o).p minus_one) && int_eq (if beyond q (spot_of_call b) (spot_of_reply (nearest_reply o)) then pos 1 else pos 0) (pos 1)) ≡ true)
         → PointsSwap Nearest Add s a b
     by_words (inl e) = look_first s q a.a b.a add (by_ids (either _ _ e))
@@ -123,16 +123,16 @@ add_nearest s a b seen t = look_second s q a.a b.a add (by_words (either _ _ t))
     allowed : Bool
     allowed = may_add a
 
-    add : Act
-    add = point_act Add a
+    add : RowAction
+    add = point_action Add a
 
     o : Option Spot
-    o = nearest (act_next add s a.a) q
+    o = nearest (action_next add s a.a) q
 
     turned_about : (x y : ℤ) → not (int_eq x y) ≡ true → not (int_eq y x) ≡ true
     turned_about x y e = ap not (int_eq-comm y x) ∙ e
 
-    by_words : (int_eq (act_reply add s a.a).p (pos 0) ≡ true) ⊎ (not (int_eq a.a (nearest_reply o).p) ≡ true) → nearest s q ≡ nearest (act_next add s a.a) q
+    by_words : (int_eq (action_reply add s a.a).p (pos 0) ≡ true) ⊎ (not (int_eq a.a (nearest_reply o).p) ≡ true) → nearest s q ≡ nearest (action_next add s a.a) q
     by_words (inl e) = ap (λ u. nearest u q) (sym (turn_still allowed None (place_of a) s a.a e))
     by_words (inr e) = add_undone s q a.a allowed (place_of a) (avoids_of o a.a (turned_about a.a (nearest_reply o).p e))
 
@@ -142,13 +142,13 @@ nearest_remove s a b seen t = look_first s q a.a b.a remove (by_words (either _ 
     q : Spot
     q = spot_of_call a
 
-    remove : Act
-    remove = point_act Remove b
+    remove : RowAction
+    remove = point_action Remove b
 
     o : Option Spot
     o = nearest s q
 
-    by_words : (int_eq (act_reply remove s b.a).p (pos 0) ≡ true) ⊎ (not (int_eq (nearest_reply o).p b.a) ≡ true) → nearest (act_next remove s b.a) q ≡ nearest s q
+    by_words : (int_eq (action_reply remove s b.a).p (pos 0) ≡ true) ⊎ (not (int_eq (nearest_reply o).p b.a) ≡ true) → nearest (action_next remove s b.a) q ≡ nearest s q
     by_words (inl e) = ap (λ u. nearest u q) (turn_still true (place_of b) None s b.a e)
     by_words (inr e) = remove_kept s q b.a true (place_of b) (avoids_of o b.a e)
 
@@ -158,42 +158,42 @@ remove_nearest s a b seen t = look_second s q a.a b.a remove (by_words (either _
     q : Spot
     q = spot_of_call b
 
-    remove : Act
-    remove = point_act Remove a
+    remove : RowAction
+    remove = point_action Remove a
 
     o : Option Spot
-    o = nearest (act_next remove s a.a) q
+    o = nearest (action_next remove s a.a) q
 
-    by_ids : (int_eq (act_reply remove s a.a).p (pos 0) ≡ true) ⊎ (int_eq a.a b.a ≡ true) → nearest s q ≡ nearest (act_next remove s a.a) q
+    by_ids : (int_eq (action_reply remove s a.a).p (pos 0) ≡ true) ⊎ (int_eq a.a b.a ≡ true) → nearest s q ≡ nearest (action_next remove s a.a) q
     by_ids (inl e) = ap (λ u. nearest u q) (sym (turn_still true (place_of a) None s a.a e))
     by_ids (inr e) = sym (own_kept s q a.a true (place_of a) None (int_eq-comm b.a a.a ∙ e))
 
-    by_words : ((int_eq (act_reply remove s a.a).p (pos 0) || int_eq a.a b.a) ≡ true)
+    by_words : ((int_eq (action_reply remove s a.a).p (pos 0) || int_eq a.a b.a) ≡ true)
         ⊎ ((not (int_eq (nearest_reply o).p minus_one) && int_eq (if beyond q (spot_of_call a) (spot_of_reply (nearest_reply o)) then pos 1 else pos 0) (pos 1)) ≡ true)
-        → nearest s q ≡ nearest (act_next remove s a.a) q
+        → nearest s q ≡ nearest (action_next remove s a.a) q
     by_words (inl e) = by_ids (either _ _ e)
     by_words (inr e) = remove_undone s q a.a true (place_of a) (behind_of q (spot_of_call a) o e)
 
 -- the pairs that use one row each
 abbrev pub PointPair : (d e : PointDeed) (s : State) (a b : Call) → Type 0
-PointPair d e s a b = Pair s a.a b.a (point_act d a) (point_act e b)
+PointPair d e s a b = Pair s a.a b.a (point_action d a) (point_action e b)
 
-near_swaps : (d e : PointDeed) (s : State) (a b : Call) → IsNear (point_act d a) → IsNear (point_act e b) → PointPair d e s a b → PointsSwap d e s a b
-near_swaps d e s a b f g h = pair_swaps s a.a b.a (point_act d a) (point_act e b) f g h
+near_swaps : (d e : PointDeed) (s : State) (a b : Call) → IsNear (point_action d a) → IsNear (point_action e b) → PointPair d e s a b → PointsSwap d e s a b
+near_swaps d e s a b f g h = pair_swaps s a.a b.a (point_action d a) (point_action e b) f g h
 
 swaps_by : (d e : PointDeed) (s : State) (a b : Call) (seen : Seen) → Row d e s a b seen → PointsSwap d e s a b
 swaps_by Add Add s a b seen t = near_swaps Add Add s a b tt tt (two_turns s a.a b.a (may_add a) (may_add b) None (place_of a) None (place_of b) t)
 swaps_by Add Remove s a b seen t = near_swaps Add Remove s a b tt tt (two_turns s a.a b.a (may_add a) true None (place_of a) (place_of b) None t)
-swaps_by Add At s a b seen t = near_swaps Add At s a b tt tt (turn_first s a.a b.a (may_add a) None (place_of a) (point_act At b) refl t)
+swaps_by Add At s a b seen t = near_swaps Add At s a b tt tt (turn_first s a.a b.a (may_add a) None (place_of a) (point_action At b) refl t)
 swaps_by Add Nearest s a b seen t = add_nearest s a b seen t
 swaps_by Add Nothing s a b seen t = absurd (cc)
 swaps_by Remove Add s a b seen t = near_swaps Remove Add s a b tt tt (two_turns s a.a b.a true (may_add b) (place_of a) None None (place_of b) t)
 swaps_by Remove Remove s a b seen t = near_swaps Remove Remove s a b tt tt (two_turns s a.a b.a true true (place_of a) None (place_of b) None t)
-swaps_by Remove At s a b seen t = near_swaps Remove At s a b tt tt (turn_first s a.a b.a true (place_of a) None (point_act At b) refl t)
+swaps_by Remove At s a b seen t = near_swaps Remove At s a b tt tt (turn_first s a.a b.a true (place_of a) None (point_action At b) refl t)
 swaps_by Remove Nearest s a b seen t = remove_nearest s a b seen t
 swaps_by Remove Nothing s a b seen t = absurd (cc)
-swaps_by At Add s a b seen t = near_swaps At Add s a b tt tt (turn_second s a.a b.a (point_act At a) (may_add b) None (place_of b) refl t)
-swaps_by At Remove s a b seen t = near_swaps At Remove s a b tt tt (turn_second s a.a b.a (point_act At a) true (place_of b) None refl t)
+swaps_by At Add s a b seen t = near_swaps At Add s a b tt tt (turn_second s a.a b.a (point_action At a) (may_add b) None (place_of b) refl t)
+swaps_by At Remove s a b seen t = near_swaps At Remove s a b tt tt (turn_second s a.a b.a (point_action At a) true (place_of b) None refl t)
 swaps_by At At s a b seen t = both_still _ _ s refl refl
 swaps_by At Nearest s a b seen t = both_still _ _ s refl refl
 swaps_by At Nothing s a b seen t = absurd (cc)
@@ -216,18 +216,4 @@ point_table = record {
   swaps = λ s a b h fa fb t. point_swaps s a b (record { first = pos 0; second = pos 0 }) t;
   sees_first = λ s a b h fa fb t l x. refl;
   sees_second = λ s a b h fa fb t l x. refl;
-}
-
-point_leaves : (d : PointDeed) (c : Call) → IsCall c → Leaves IsPlace (point_act d c) c.a
-point_leaves Add c f = (refl, f.0, f.1, f.2, f.3)
-point_leaves Remove c f = tt
-point_leaves At c f = tt
-point_leaves Nearest c f = tt
-point_leaves Nothing c f = tt
-
-pub point_laws : MeaningLaws point_meaning HoldsPlaces
-point_laws = record {
-  keeps_kind = λ s c. act_kind (point_act (point_deed c.method) c) s c.a;
-  keeps_state = λ s c h f. act_keeps IsPlace (point_act (point_deed c.method) c) s c.a (point_leaves (point_deed c.method) c f) h;
-  undone = λ s c h f. act_undone (point_act (point_deed c.method) c) s c.a;
 }

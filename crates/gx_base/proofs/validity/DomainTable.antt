@@ -1,30 +1,24 @@
 -- The precise table of domain books is valid.
-use Rattle.std.specs.Prelude.{◌≡◌, ℤ, pos, Bool, true, false, not, ◌&&◌, ◌||◌, refl, ◌⊎◌}
+use Rattle.std.specs.Prelude.{◌≡◌, ℤ, Bool, true, false, not, ◌&&◌, ◌||◌, refl, ◌⊎◌}
 use Rattle.std.proofs.Common.{sym, ◌∙◌, ap, subst, inl, inr}
 use Rattle.std.specs.Ordering.{int_eq}
-use Rattle.std.specs.Int.{w64, int_wrapping_add}
 use Rattle.gx_base.specs.declared.calls.Call.{Call}
 use Rattle.gx_base.specs.Conditions.{holds}
 use Rattle.gx_base.specs.States.{State, number_at, with_number, HoldsNumbers}
-use Rattle.gx_base.specs.Registers.{number_at-other, with-number_at, number_at-fits}
+use Rattle.gx_base.proofs.states.Registers.{with-number_at}
 use Rattle.gx_base.specs.Meanings.{IsCall, number_reply}
-use Rattle.gx_base.specs.Deeds.{Deed, Reads, Adds, Sets, On, next_by, reply_by, inverse_by}
-use Rattle.gx_base.specs.Domains.{DomainDeed, Weigh, Total, Move, Credit, Sum, Nothing, domain_deed, dom, domain_use, aimed, domain_next, domain_meaning}
-use Rattle.gx_base.specs.Swapping.{Effect, SwapsBy, first_still, second_still, both_still, same_int, both, not_true}
-use Rattle.gx_base.specs.RegisterTable.{UsesSwap, swap_numbers_differ, swap_either, deed_test, undone_by, state_by, kind-next_by}
+use Rattle.gx_base.specs.RegisterDeeds.{Deed, Reads, Adds, Sets, On, next_by, reply_by}
+use Rattle.gx_base.specs.DomainKind.{DomainDeed, Weigh, Total, Move, Credit, Sum, Nothing, domain_deed, dom, domain_use, aimed, domain_next, domain_meaning}
+use Rattle.gx_base.proofs.validity.Swapping.{Effect, SwapsBy, first_still, second_still, both_still, same_int, both, not_true}
+use Rattle.gx_base.proofs.validity.RegisterTable.{UsesSwap, swap_numbers_differ, swap_either, deed_test}
+use Rattle.gx_base.proofs.object_kinds.DomainLaws.{IsSum, dom_stays, aimed-same, aimed-IsCall, domain_next-HoldsNumbers}
 use Rattle.gx_base.specs.PreciseTables.{domain_row, domain_rows}
 use Rattle.gx_base.specs.Tables.{uses_state}
-use Rattle.gx_base.specs.KindLaws.{TableLaws, MeaningLaws}
+use Rattle.gx_base.proofs.validity.KindLaws.{TableLaws}
 
 -- a call of a domain book, as an effect
 abbrev pub domain_effect : DomainDeed → Call → Effect
 domain_effect d c = record { next = λ s. domain_next d s c; reply = λ s. reply_by (domain_use d) s (aimed d s c) }
-
--- the deeds on sums
-abbrev pub IsSum : DomainDeed → Type 0
-IsSum Move = ⊥
-IsSum Nothing = ⊥
-IsSum _ = Unit {0}
 
 -- what a method on sums does with the sum
 abbrev pub sum_deed : DomainDeed → Deed
@@ -39,39 +33,6 @@ use_is Move i = absurd i
 use_is Credit i = refl
 use_is Sum i = refl
 use_is Nothing i = absurd i
-
--- a deed on a sum leaves all domains
-dom_by : (deed : Deed) (s : State) (c : Call) (x : ℤ) → dom (next_by (On 1 deed) s c) x ≡ dom s x
-dom_by Reads s c x = refl
-dom_by Adds s c x = number_at-other s (1, c.a) (0, x) (int_wrapping_add w64 (number_at s (1, c.a)) c.b) refl
-dom_by Sets s c x = number_at-other s (1, c.a) (0, x) c.b refl
-
-pub dom_stays : (d : DomainDeed) → IsSum d → (s : State) (c : Call) (x : ℤ) → dom (domain_next d s c) x ≡ dom s x
-dom_stays Weigh i s c x = dom_by Adds s (aimed Weigh s c) x
-dom_stays Total i s c x = refl
-dom_stays Move i s c x = absurd i
-dom_stays Credit i s c x = dom_by Adds s c x
-dom_stays Sum i s c x = refl
-dom_stays Nothing i s c x = absurd i
-
-aimed-same : (d : DomainDeed) (s t : State) (c : Call) → dom t c.a ≡ dom s c.a → aimed d t c ≡ aimed d s c
-aimed-same Weigh s t c e = ap (λ x. record c { a = x }) e
-aimed-same Total s t c e = ap (λ x. record c { a = x }) e
-aimed-same Move s t c e = refl
-aimed-same Credit s t c e = refl
-aimed-same Sum s t c e = refl
-aimed-same Nothing s t c e = refl
-
-aimed-IsCall : (d : DomainDeed) (s : State) (c : Call) → HoldsNumbers s → IsCall c → IsCall (aimed d s c)
-aimed-IsCall Weigh s c h f = (number_at-fits s (0, c.a) h, f.1, f.2, f.3)
-aimed-IsCall Total s c h f = (number_at-fits s (0, c.a) h, f.1, f.2, f.3)
-aimed-IsCall Move s c h f = f
-aimed-IsCall Credit s c h f = f
-aimed-IsCall Sum s c h f = f
-aimed-IsCall Nothing s c h f = f
-
-pub domain_next-HoldsNumbers : (d : DomainDeed) (s : State) (c : Call) → HoldsNumbers s → IsCall c → HoldsNumbers (domain_next d s c)
-domain_next-HoldsNumbers d s c h f = state_by (domain_use d) s (aimed d s c) h (aimed-IsCall d s c h f)
 
 -- two deeds on sums aim as they do in the first state
 sums_swap : (d e : DomainDeed) → IsSum d → IsSum e → (s : State) (a b : Call) → UsesSwap (domain_use d) (domain_use e) s (aimed d s a) (aimed e s b) → SwapsBy (domain_effect d a) (domain_effect e b) s
@@ -212,22 +173,4 @@ domain_table = record {
   swaps = λ s a b h fa fb t. swaps_by (domain_deed a.method) (domain_deed b.method) s a b h fa fb t;
   sees_first = λ s a b h fa fb t l. second_sees (domain_deed a.method) (domain_deed b.method) (looks_back_sum (domain_deed a.method) (domain_deed l.0) l.1) s a b h t;
   sees_second = λ s a b h fa fb t l. first_sees (domain_deed a.method) (domain_deed b.method) (looks_back_sum (domain_deed b.method) (domain_deed l.0) l.1) s a b h t;
-}
-
-domain_undone : (d : DomainDeed) (s : State) (c : Call) → HoldsNumbers s → IsCall c
-    → inverse_by (domain_use d) (domain_next d s c) (aimed d (domain_next d s c) c) (reply_by (domain_use d) s (aimed d s c)) ≡ s
-domain_undone Weigh s c h f =
-    ap (λ k. inverse_by (On 1 Adds) (domain_next Weigh s c) k (number_reply (pos 0))) (aimed-same Weigh s (domain_next Weigh s c) c (dom_stays Weigh tt s c c.a))
-    ∙ undone_by (On 1 Adds) s (aimed Weigh s c) h (aimed-IsCall Weigh s c h f)
-domain_undone Total s c h f = refl
-domain_undone Move s c h f = undone_by (On 0 Sets) s c h f
-domain_undone Credit s c h f = undone_by (On 1 Adds) s c h f
-domain_undone Sum s c h f = refl
-domain_undone Nothing s c h f = refl
-
-pub domain_laws : MeaningLaws domain_meaning HoldsNumbers
-domain_laws = record {
-  keeps_kind = λ s c. kind-next_by (domain_use (domain_deed c.method)) s (aimed (domain_deed c.method) s c);
-  keeps_state = λ s c h f. domain_next-HoldsNumbers (domain_deed c.method) s c h f;
-  undone = λ s c h f. domain_undone (domain_deed c.method) s c h f;
 }

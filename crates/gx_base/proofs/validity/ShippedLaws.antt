@@ -6,16 +6,17 @@ use Rattle.gx_base.specs.declared.kinds.Choice.{Choice}
 use Rattle.gx_base.specs.declared.kinds.Choice.TheVariants.{Precise, Simple, Rw, Global}
 use Rattle.gx_base.specs.Conditions.{Condition, True}
 use Rattle.gx_base.specs.Kinds.{kind_number}
-use Rattle.gx_base.specs.Deeds.{Deed, Reads, Adds, Sets, Use, Nothing as NoUse, On, use_of}
-use Rattle.gx_base.specs.Sets.{SetDeed, Add, Remove, Contains, Nothing as NoSetDeed, set_deed}
-use Rattle.gx_base.specs.Points.{PointDeed, Add as AddPoint, Remove as RemovePoint, At, Nearest, Nothing as NoPointDeed, point_deed}
-use Rattle.gx_base.specs.Domains.{DomainDeed, Weigh, Total, Move, Credit, Sum, Nothing as NoDomainDeed, domain_deed}
+use Rattle.gx_base.specs.RegisterDeeds.{Deed, Reads, Adds, Sets, Use, Nothing as NoUse, On}
+use Rattle.gx_base.specs.RegisterUses.{use_of}
+use Rattle.gx_base.specs.SetKind.{SetDeed, Add, Remove, Contains, Nothing as NoSetDeed, set_deed}
+use Rattle.gx_base.specs.PointKind.{PointDeed, Add as AddPoint, Remove as RemovePoint, At, Nearest, Nothing as NoPointDeed, point_deed}
+use Rattle.gx_base.specs.DomainKind.{DomainDeed, Weigh, Total, Move, Credit, Sum, Nothing as NoDomainDeed, domain_deed}
 use Rattle.gx_base.specs.Tables.{IsValid}
 use Rattle.gx_base.specs.PreciseTables.{other_rows, set_row, deed_row, use_row, point_row, domain_row, precise_rows}
 use Rattle.gx_base.specs.ShippedTables.{false_rows, simple_set, simple_deeds, rw_deeds, use_by, simple_point, rw_point, simple_domain, rw_domain, simple_rows, rw_rows, shipped_rows}
 use Rattle.gx_base.specs.Below.{IsBelow, AreBelow}
-use Rattle.gx_base.specs.BelowLaws.{IsBelow-itself, False-IsBelow, IsBelow-True, IsBelow-left, IsBelow-right}
-use Rattle.gx_base.specs.Laws.{below-IsValid, set_rows-IsValid, cells_rows-IsValid, flow_rows-IsValid, point_rows-IsValid, domain_rows-IsValid}
+use Rattle.gx_base.proofs.table_lemmas.BelowLaws.{IsBelow-itself, False-IsBelow, IsBelow-True, IsBelow-left, IsBelow-right, below-IsValid}
+use Rattle.gx_base.proofs.validity.Laws.{set_rows-IsValid, cells_rows-IsValid, flow_rows-IsValid, point_rows-IsValid, domain_rows-IsValid}
 
 other_rows-True : IsBelow other_rows True
 other_rows-True = IsBelow-True other_rows (λ side. refl)

@@ -5,7 +5,7 @@ use Rattle.gx_base.specs.declared.conditions.Side.TheVariants.{First, Second}
 use Rattle.gx_base.specs.declared.conditions.Term.{Term}
 use Rattle.gx_base.specs.declared.conditions.Term.TheVariants.{Const, Value, Beyond, State as StateTerm}
 use Rattle.gx_base.specs.Conditions.{Condition, True, False, Eq, Ne, Lt, Le, And, Or, Not}
-use Rattle.gx_base.specs.Tables.{Rows, term_uses_state, uses_state, LooksBack}
+use Rattle.gx_base.specs.Tables.{Rows, term_uses_state, uses_state, LooksBack, IsValid}
 use Rattle.gx_base.specs.Below.{term_names, names_state, IsBelow, AreBelow}
 
 pub or_left : (a b : Bool) → a ≡ true → (a || b) ≡ true
@@ -95,3 +95,11 @@ IsBelow-left c d = record { truth = λ first second seen t. or_left _ _ t; terms
 
 pub IsBelow-right : (c d : Condition) → IsBelow d (Or c d)
 IsBelow-right c d = record { truth = λ first second seen t. or_right _ _ t; terms = λ side e. or_right _ _ e }
+
+-- a table below a valid one is valid
+pub below-IsValid : (kind : ℕ) (lower upper : Rows) → AreBelow lower upper → IsValid kind upper → IsValid kind lower
+below-IsValid kind lower upper h v = record {
+  swaps = λ s a b e k fa fb t. v.swaps s a b e k fa fb ((h a.method b.method).truth _ _ _ t);
+  sees_first = λ s a b e k fa fb t l. v.sees_first s a b e k fa fb ((h a.method b.method).truth _ _ _ t) (LooksBack-below lower upper h a.method l);
+  sees_second = λ s a b e k fa fb t l. v.sees_second s a b e k fa fb ((h a.method b.method).truth _ _ _ t) (LooksBack-below lower upper h b.method l);
+}

@@ -1,9 +1,14 @@
 -- Domain books: the domain of each element, and the sum of each domain.
-use Rattle.std.specs.Prelude.{ℕ, ℤ, ◌==◌, if◌then◌else◌}
+use Rattle.std.specs.Prelude.{ℕ, ◌+◌, ℤ, true, ◌==◌, if◌then◌else◌, [], ◌∷◌, codes}
 use Rattle.gx_base.specs.declared.calls.Call.{Call}
-use Rattle.gx_base.specs.States.{State, number_at}
+use Rattle.gx_base.specs.States.{State, number_at, HoldsNumbers}
 use Rattle.gx_base.specs.Meanings.{Meaning}
-use Rattle.gx_base.specs.Deeds.{Use, Nothing as NoUse, On, Reads, Adds, Sets, next_by, reply_by, inverse_by}
+use Rattle.gx_base.specs.ObjectKinds.{ObjectKind}
+use Rattle.gx_base.specs.RegisterDeeds.{Use, Nothing as NoUse, On, Reads, Adds, Sets, next_by, reply_by, inverse_by}
+
+-- the number of the first method of domain books
+abbrev pub domain_first : ℕ
+domain_first = 48
 
 -- the methods of domain books
 pub data DomainDeed : Type 0 where
@@ -17,11 +22,11 @@ pub data DomainDeed : Type 0 where
 -- the method of a number
 abbrev pub domain_deed : ℕ → DomainDeed
 domain_deed method =
-    if method == 48 then Weigh
-    else if method == 49 then Total
-    else if method == 50 then Move
-    else if method == 51 then Credit
-    else if method == 52 then Sum
+    if method == domain_first then Weigh
+    else if method == domain_first + 1 then Total
+    else if method == domain_first + 2 then Move
+    else if method == domain_first + 3 then Credit
+    else if method == domain_first + 4 then Sum
     else Nothing
 
 -- the domain of an element
@@ -54,4 +59,15 @@ domain_meaning = record {
   reply = λ s c. reply_by (domain_use (domain_deed c.method)) s (aimed (domain_deed c.method) s c);
   inverse = λ s c r. inverse_by (domain_use (domain_deed c.method)) s (aimed (domain_deed c.method) s c) r;
   observed = dom;
+}
+
+-- the kind of domain books
+abbrev pub domain_kind : ObjectKind
+domain_kind = record {
+  word = codes "domains";
+  first = domain_first;
+  words = codes "weigh" ∷ codes "total" ∷ codes "move" ∷ codes "credit" ∷ codes "sum" ∷ [];
+  meaning = domain_meaning;
+  may_hold = HoldsNumbers;
+  has_state_function = true;
 }

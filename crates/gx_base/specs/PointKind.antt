@@ -1,5 +1,5 @@
 -- Points: a row of three numbers for each id.
-use Rattle.std.specs.Prelude.{◌≡◌, ℕ, ℤ, pos, negsuc, Bool, true, not, ◌&&◌, ◌==◌, if◌then◌else◌, int_lt, Option, Some, None, List, [], ◌∷◌, FitsSigned}
+use Rattle.std.specs.Prelude.{◌≡◌, ℕ, ◌+◌, ℤ, pos, negsuc, Bool, true, false, not, ◌&&◌, ◌==◌, if◌then◌else◌, int_lt, Option, Some, None, List, [], ◌∷◌, FitsSigned, codes}
 use Rattle.std.specs.Ordering.{int_eq}
 use Rattle.std.specs.FinMap as map
 use Rattle.std.specs.Int.{w64}
@@ -8,7 +8,8 @@ use Rattle.gx_base.specs.declared.calls.Reply.{Reply}
 use Rattle.gx_base.specs.declared.calls.Spot.{Spot}
 use Rattle.gx_base.specs.States.{State, row_at}
 use Rattle.gx_base.specs.Meanings.{Meaning, number_reply}
-use Rattle.gx_base.specs.Acts.{Act, Nothing as NoAct, Turn, Ask, Look, acts_meaning}
+use Rattle.gx_base.specs.ObjectKinds.{ObjectKind}
+use Rattle.gx_base.specs.RowActions.{RowAction, Nothing as NoAction, Turn, Ask, Look, actions_meaning}
 use Rattle.gx_base.specs.Spots.{beyond, spot_of_call}
 
 -- the point that a row of this id holds
@@ -49,6 +50,10 @@ abbrev pub nearest_reply : Option Spot → Reply
 nearest_reply None = number_reply (negsuc 0)
 nearest_reply (Some r) = record { p = r.id; q = r.x; r = r.y; s = r.z }
 
+-- the number of the first method of points
+abbrev pub point_first : ℕ
+point_first = 32
+
 -- the methods of points
 pub data PointDeed : Type 0 where
   Add : PointDeed
@@ -60,10 +65,10 @@ pub data PointDeed : Type 0 where
 -- the method of a number
 abbrev pub point_deed : ℕ → PointDeed
 point_deed method =
-    if method == 32 then Add
-    else if method == 33 then Remove
-    else if method == 34 then At
-    else if method == 35 then Nearest
+    if method == point_first then Add
+    else if method == point_first + 1 then Remove
+    else if method == point_first + 2 then At
+    else if method == point_first + 3 then Nearest
     else Nothing
 
 -- the row of the point that a call names
@@ -75,16 +80,16 @@ abbrev pub may_add : Call → Bool
 may_add c = not (int_lt c.a (pos 0)) && int_eq c.d (pos 0)
 
 -- what a method of points does
-abbrev pub point_act : PointDeed → Call → Act
-point_act Add c = Turn (may_add c) None (place_of c)
-point_act Remove c = Turn true (place_of c) None
-point_act At c = Ask (λ row. at_reply (spot_of c.a row))
-point_act Nearest c = Look (λ s. nearest_reply (nearest s (spot_of_call c)))
-point_act Nothing c = NoAct
+abbrev pub point_action : PointDeed → Call → RowAction
+point_action Add c = Turn (may_add c) None (place_of c)
+point_action Remove c = Turn true (place_of c) None
+point_action At c = Ask (λ row. at_reply (spot_of c.a row))
+point_action Nearest c = Look (λ s. nearest_reply (nearest s (spot_of_call c)))
+point_action Nothing c = NoAction
 
 -- the meaning of points
 abbrev pub point_meaning : Meaning
-point_meaning = acts_meaning (λ c. point_act (point_deed c.method) c)
+point_meaning = actions_meaning (λ c. point_action (point_deed c.method) c)
 
 -- what a row of points may hold
 abbrev pub IsPlace : ℕ × ℤ → Option (List ℤ) → Type 0
@@ -95,3 +100,14 @@ IsPlace key (Some _) = ⊥
 -- each row is a point
 abbrev pub HoldsPlaces : State → Type 0
 HoldsPlaces s = (key : ℕ × ℤ) → IsPlace key (map.get s.rows key)
+
+-- the kind of points
+abbrev pub point_kind : ObjectKind
+point_kind = record {
+  word = codes "points";
+  first = point_first;
+  words = codes "add" ∷ codes "remove" ∷ codes "at" ∷ codes "nearest" ∷ [];
+  meaning = point_meaning;
+  may_hold = HoldsPlaces;
+  has_state_function = false;
+}

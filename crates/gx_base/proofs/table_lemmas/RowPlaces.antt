@@ -7,7 +7,7 @@ use Rattle.std.specs.FinMap as finite
 use Rattle.gx_base.specs.declared.tables.Row.{Row}
 use Rattle.gx_base.specs.Conditions.{Condition, True, False, Eq, Ne, Lt, Le, And, Or, Not, condition_of, is_false}
 use Rattle.gx_base.specs.TableRows.{pair_cmp, row_of, row_or_false}
-use Rattle.gx_base.specs.TableRowLaws.{pair_cmp_total, pair_cmp-IsAntisymmetric, same_pair, same_pair-is, same_pair-sym, same_pair-parts}
+use Rattle.gx_base.proofs.table_lemmas.TableRowLaws.{pair_cmp_total, pair_cmp-IsAntisymmetric, same_pair, same_pair-is, same_pair-sym, same_pair-parts}
 use Rattle.gx_base.specs.RowLists.{is_row_of, entry_of, entries_of, row_map_of, IsRowPut}
 
 -- the key of a row is the pair that it is looked for by

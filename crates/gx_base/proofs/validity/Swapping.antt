@@ -6,8 +6,8 @@ use Rattle.std.specs.Cmp.{signed_Decides, int_eq_equiv}
 use Rattle.gx_base.specs.declared.calls.Call.{Call}
 use Rattle.gx_base.specs.declared.calls.Reply.{Reply}
 use Rattle.gx_base.specs.States.{State, row_at, with_row}
-use Rattle.gx_base.specs.Registers.{same_row, same_row-is}
-use Rattle.gx_base.specs.Rows.{row_at-other, with_row-comm}
+use Rattle.gx_base.proofs.states.Registers.{same_row, same_row-is}
+use Rattle.gx_base.proofs.states.StateRows.{row_at-other, with_row-comm}
 use Rattle.gx_base.specs.Meanings.{Meaning}
 
 -- what one call does
