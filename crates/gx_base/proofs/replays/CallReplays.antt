@@ -4,7 +4,7 @@ use Rattle.std.proofs.Common.{sym, ◌∙◌, ap, subst}
 use Rattle.gx_base.specs.declared.calls.Made.{Made}
 use Rattle.gx_base.specs.States.{State}
 use Rattle.gx_base.specs.Steps.{next_state, inverse, IsState}
-use Rattle.gx_base.specs.Laws.{undoes, next_state-IsState}
+use Rattle.gx_base.proofs.object_kinds.KnownLaws.{undoes, next_state-IsState}
 use Rattle.gx_base.specs.Replays.{after, Legal, start_of, AreCalls}
 
 -- a replay determines its end
