@@ -13,17 +13,14 @@ pub mod ConditionCodes
 pub mod TableRows
 pub mod TableRowLaws
 pub mod RowLists
-pub mod PreciseTables
 pub mod Kinds
 pub mod Wrapping
 pub mod Registers
 pub mod Rows
-pub mod Swapping
 pub mod KindLaws
 pub mod ActLaws
 pub mod SetTable
 pub mod RegisterTable
-pub mod Nearest
 pub mod PointTable
 pub mod DomainTable
 pub mod Below
@@ -36,6 +33,5 @@ pub mod Outcomes
 pub mod SerialIterations
 pub mod Methods
 pub mod ShippedTables
-pub mod ShippedLaws
 pub mod ForeignMethods
 pub mod BodyLaws

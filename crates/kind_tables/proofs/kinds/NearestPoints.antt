@@ -12,7 +12,7 @@ use Rattle.gx_base.specs.declared.calls.Spot.{Spot}
 use Rattle.gx_base.specs.States.{State, row_cmp, row_at, with_row}
 use Rattle.gx_base.specs.Registers.{both_equal, same_row, same_row-is, same_row-sort}
 use Rattle.gx_base.specs.Rows.{row_at-with}
-use Rattle.gx_base.specs.Swapping.{same_int, either, both, not_true, false_of}
+use Rattle.kind_tables.proofs.swapping.Effects.{same_int, either, both, not_true, false_of}
 use Rattle.gx_base.specs.Spots.{Key, pk, key_cmp, beyond, distance, square, far}
 use Rattle.gx_base.specs.Points.{spot_of, spot_at, nearer, other_at, nearest_of, nearest}
 
