@@ -1,5 +1,5 @@
 -- The facts of the tables of every kind.
-use Rattle.std.specs.Prelude.{◌≡◌, ◌≢◌, refl}
+use Rattle.std.specs.Prelude.{◌≢◌, refl}
 use Rattle.gx_base.specs.declared.kinds.Kind.{Kind}
 use Rattle.gx_base.specs.declared.kinds.Kind.TheVariants.{Set, Cells, Flow, Points, Domains}
 use Rattle.gx_base.specs.Kinds.{kind_number}

@@ -1,5 +1,5 @@
 -- The tables of flow shards: the precise one is valid, and the others are as they should be.
-use Rattle.std.specs.Prelude.{ℤ, pos, refl}
+use Rattle.std.specs.Prelude.{pos, refl}
 use Rattle.gx_base.specs.ForeignMethods.{flow_use-foreign}
 use Rattle.gx_base.specs.States.{HoldsNumbers}
 use Rattle.gx_base.specs.Steps.{meaning_of}

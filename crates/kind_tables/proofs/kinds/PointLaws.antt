@@ -8,7 +8,6 @@ use Rattle.gx_base.specs.declared.calls.Seen.{Seen}
 use Rattle.gx_base.specs.Conditions.{holds}
 use Rattle.gx_base.specs.States.{State, row_at, with_row}
 use Rattle.gx_base.specs.Rows.{row_at-same, written_back}
-use Rattle.gx_base.specs.Meanings.{IsCall}
 use Rattle.gx_base.specs.Spots.{beyond, spot_of_call, spot_of_reply}
 use Rattle.gx_base.specs.Acts.{Act, Turn, Look, act_next, act_reply, turns}
 use Rattle.gx_base.specs.Points.{PointDeed, Add, Remove, At, Nearest, Nothing, point_deed, point_act, may_add, point_meaning, place_of, nearest, nearest_reply, spot_of, HoldsPlaces}

@@ -1,5 +1,5 @@
 -- The rows of cells and flow shards, over what their methods do with numbers.
-use Rattle.std.specs.Prelude.{◌≡◌, ℕ, Bool, true, false, ◌==◌, if◌then◌else◌, refl}
+use Rattle.std.specs.Prelude.{◌≡◌, Bool, true, false, ◌==◌, if◌then◌else◌, refl}
 use Rattle.gx_base.specs.declared.conditions.Side.TheVariants.{Second}
 use Rattle.gx_base.specs.Below.{names_state, IsBelow}
 use Rattle.gx_base.specs.BelowLaws.{IsBelow-itself, False-IsBelow, IsBelow-True}

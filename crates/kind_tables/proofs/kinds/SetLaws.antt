@@ -1,5 +1,5 @@
 -- The tables of sets: the precise one is valid, and the others are as they should be.
-use Rattle.std.specs.Prelude.{◌≡◌, ℤ, pos, true, false, Some, None, [], refl}
+use Rattle.std.specs.Prelude.{◌≡◌, pos, true, false, Some, None, [], refl}
 use Rattle.std.proofs.Common.{inr}
 use Rattle.gx_base.specs.declared.calls.Call.{Call}
 use Rattle.gx_base.specs.declared.calls.Seen.{Seen}
@@ -12,7 +12,6 @@ use Rattle.gx_base.specs.States.{State}
 use Rattle.gx_base.specs.Acts.{act_next, act_reply}
 use Rattle.gx_base.specs.Sets.{SetDeed, Add, Remove, Contains, Nothing, set_deed, set_act, set_meaning, HoldsMarks}
 use Rattle.cond_lattice.specs.Simple.{strengthened}
-use Rattle.kind_tables.specs.PairConditions.{rows_by}
 use Rattle.kind_tables.specs.SetTables.{precise_set, simple_set, set_tables}
 use Rattle.kind_tables.proofs.swapping.Effects.{SwapsBy, effect_in}
 use Rattle.kind_tables.proofs.swapping.ActSwaps.{IsNear, Pair, two_apart_rows, two_turns, turn_first, turn_second, pair_swaps}

@@ -1,7 +1,6 @@
 -- What each kind shows of its tables, and what follows for all of its choices.
 use Rattle.std.specs.Prelude.{◌≡◌, ℕ, Bool, true, false, ◌&&◌, ◌⊎◌, refl}
-use Rattle.std.proofs.Common.{sym, ◌∙◌, ap, subst, inl, inr}
-use Rattle.gx_base.specs.declared.conditions.Side.{Side}
+use Rattle.std.proofs.Common.{◌∙◌, ap, inl, inr}
 use Rattle.gx_base.specs.declared.conditions.Side.TheVariants.{Second}
 use Rattle.gx_base.specs.declared.kinds.Choice.{Choice}
 use Rattle.gx_base.specs.declared.kinds.Choice.TheVariants.{Precise, Simple, Rw, Global}
