@@ -31,7 +31,9 @@ impl SeqType for Meagre {
     ghost use Rattle.std.specs.Prelude.{false, nat_lt};
     ghost use Rattle.gx_base.specs.Replays.{no_state};
     ghost use Rattle.gx_base.specs.SetKind.{IsMark};
+    ghost use Rattle.gx_base.specs.ShippedTables.{false_rows};
     ghost use Rattle.gx_base.specs.States.{row_cmp};
+    ghost use Rattle.gate_core.proofs.EmptySets.{foreign_high, apart};
     ghost use Rattle.std.proofs.Common.{subst, sym};
     ghost use Rattle.std.specs.FinMap as map;
 
@@ -40,6 +42,12 @@ impl SeqType for Meagre {
     ghost has_room = { λ _ made. nat_lt 1 made.call.method };
 
     ghost holds_kind = { λ _. false };
+
+    ghost tables = { λ _. record { precise = false_rows; simple = false_rows; reader_writer = false_rows } };
+
+    ghost foreign_roomed = { λ _ made. foreign_high made.call.method };
+
+    ghost tables_suit = { λ _ held. absurd (apart held) };
 
     ghost known = { λ _ key. subst IsMark (sym (map.get-empty row_cmp key)) tt };
 
@@ -93,7 +101,7 @@ fn scanned<T: SeqType>(
 
 fn meagre_gate(alloc: Global, calls: u32) -> Result<Gate<Meagre, ScanScreen>, NoMemory> {
     let table = Meagre::shipped(alloc, Kind::Set, Choice::Global)?;
-    shipped_tables_serve_gates();
+    shipped_tables_serve_gates::<Meagre>();
     let object = Meagre { calls };
     match scanned(alloc, object, Kind::Set, table) {
         Some(gate) => Ok(gate),

@@ -8,16 +8,12 @@ ghost use Rattle.gx_base.specs.declared.calls.Call.{Call};
 ghost use Rattle.gx_base.specs.declared.calls.Made.{Made};
 ghost use Rattle.gx_base.specs.declared.calls.Reply.{Reply};
 ghost use Rattle.gx_base.specs.declared.items.Item.{Item};
-ghost use Rattle.gx_base.specs.declared.kinds.Choice.{Choice};
-ghost use Rattle.gx_base.specs.declared.kinds.Kind.TheVariants.{Set, Cells, Points, Domains};
 ghost use Rattle.gx_base.specs.States.{State};
 ghost use Rattle.gx_base.specs.Steps.{next_state, reply_to, inverse, IsState, IsCall};
 ghost use Rattle.gx_base.specs.Tables.{Rows, IsValid};
 ghost use Rattle.gx_base.specs.Below.{AreBelow};
-ghost use Rattle.gx_base.specs.Kinds.{kind_number};
 ghost use Rattle.gx_base.specs.Methods.{is_method};
 ghost use Rattle.gx_base.specs.ForeignMethods.{ChangesNothing};
-ghost use Rattle.gx_base.specs.ShippedTables.{shipped_rows};
 ghost use Rattle.gx_base.specs.Plans.{Plan, Done, Operator, Follows};
 ghost use Rattle.gx_base.specs.Outcomes.{Commit, outcomes_of, journal};
 ghost use Rattle.gx_base.specs.RoomViews.{ReplaysAlone};
@@ -47,26 +43,6 @@ pub fn foreign_methods_change_nothing()
 /// A table below a valid one is valid.
 pub fn below_valid_is_valid()
     ensures { (kind : ℕ) (lower upper : Rows) → AreBelow lower upper → IsValid kind upper → IsValid kind lower }
-{}
-
-/// The tables that sets ship are valid.
-pub fn sets_are_valid()
-    ensures { (choice : Choice) → IsValid (kind_number Set) (shipped_rows Set choice) }
-{}
-
-/// The tables that cells ship are valid.
-pub fn cells_are_valid()
-    ensures { (choice : Choice) → IsValid (kind_number Cells) (shipped_rows Cells choice) }
-{}
-
-/// The tables that points ship are valid.
-pub fn points_are_valid()
-    ensures { (choice : Choice) → IsValid (kind_number Points) (shipped_rows Points choice) }
-{}
-
-/// The tables that domain books ship are valid.
-pub fn domains_are_valid()
-    ensures { (choice : Choice) → IsValid (kind_number Domains) (shipped_rows Domains choice) }
 {}
 
 /// The steps of a body are legal from the states that it begins in, and lead to those that it ends in.
