@@ -7,7 +7,7 @@ use Rattle.gx_base.specs.Methods.{is_method}
 use Rattle.gx_base.specs.Tables.{Rows, KeepsToKind}
 use Rattle.cond_lattice.specs.declared.grades.Grade.TheVariants.{General}
 use Rattle.cond_lattice.specs.Grades.{table_grade}
-use Rattle.cond_lattice.proofs.GradeLemmas.{row_nameless}
+use Rattle.cond_lattice.proofs.CallerLemmas.{row_nameless}
 use Rattle.gate_core.specs.Scans.{SeesFirstAlone}
 use Rattle.gate_core.proofs.EntryLists.{both_true}
 

@@ -63,8 +63,3 @@ pub fn only_precise_domains_are_general()
     ensures class { (kind : Kind) (choice : Choice) → (kind ≡ Domains → choice ≢ Precise) → table_grade (kind_number kind) (shipped_rows kind choice) ≢ General }
     ensures domains { table_grade (kind_number Domains) (shipped_rows Domains Precise) ≡ General }
 {}
-
-/// A table below one without GENERAL rows has none either.
-pub fn below_keeps_general_rows_out()
-    ensures { (lower upper : Rows) → AreBelow lower upper → HasNoGeneralRow upper → HasNoGeneralRow lower }
-{}

@@ -1,5 +1,4 @@
 use Rattle.std.specs.Prelude.{refl}
-use Rattle.gx_base.specs.Kinds.{kind_number}
 use Rattle.kind_tables.specs.TablesOfKinds.{shipped_rows}
 use Rattle.kind_tables.proofs.classes.GradeLaws.{shipped-HasNoGeneralRow, class-none}
 use Rattle.kind_tables.proofs.laws.only_precise_domains_are_general.Goals as goal
@@ -7,6 +6,6 @@ use Rattle.kind_tables.proofs.laws.only_precise_domains_are_general.Goals as goa
 pub returns : goal.returns
 returns c = record {
   rows = shipped-HasNoGeneralRow;
-  class = λ kind choice n. class-none (kind_number kind) (shipped_rows kind choice) (shipped-HasNoGeneralRow kind choice n);
+  class = λ kind choice n. class-none kind (shipped_rows kind choice) (shipped-HasNoGeneralRow kind choice n);
   domains = refl;
 }
