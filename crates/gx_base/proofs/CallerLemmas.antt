@@ -18,3 +18,4 @@ pub use Rattle.gx_base.proofs.bodies.BodyReplays.{body-Replays}
 pub use Rattle.gx_base.proofs.bodies.ReplyRuns.{body-whole, RunsTo-body, RunsTo-call, RunsTo-push, RunsTo-done}
 pub use Rattle.gx_base.proofs.serial.Prefixes.{serial-append, IsSerialRun-split, IsSerialRun-append, order_of-append, outcomes_of-append}
 pub use Rattle.gx_base.proofs.serial.Journals.{IsSerialRun-Replays, IsSerialRun-runs}
+pub use Rattle.gx_base.proofs.serial.LeastFirst.{serial-least_first, IsSerialRun-least_first}

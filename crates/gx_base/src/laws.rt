@@ -20,7 +20,7 @@ ghost use Rattle.gx_base.specs.RoomViews.{ReplaysAlone};
 ghost use Rattle.gx_base.specs.Replays.{after, Legal, start_of, AreCalls, part, Replays};
 ghost use Rattle.gx_base.specs.BodyRuns.{then_step, RunsTo};
 ghost use Rattle.gx_base.specs.SerialIterations.{body, Ended, serial, then_serial};
-ghost use Rattle.gx_base.specs.SerialRuns.{IsSerialRun, IsSerialRunInTwo, AreInTurn, AreRunsOf};
+ghost use Rattle.gx_base.specs.SerialRuns.{IsSerialRun, IsLeastFirst, IsSerialRunInTwo, AreInTurn, AreRunsOf};
 
 use crate::homed::Homed;
 
@@ -107,6 +107,11 @@ pub fn journals_replay()
 /// Commits in turn, each of a run of its body by replies, are a serial run where their journal replays.
 pub fn runs_in_turn_are_serial()
     ensures { (op : Operator) (states ends : ℕ → State) (ready left : List Item) (commits : List Commit) → AreInTurn op.ordered ready commits left → AreRunsOf op commits → Replays states (journal commits) ends → IsSerialRun op states ready commits (record { states = ends; ready = left; outcomes = outcomes_of commits }) }
+{}
+
+/// Commits of which each was the least ready one at its turn, with what their bodies did, are a serial run, ordered or not.
+pub fn least_first_runs_are_serial()
+    ensures { (op : Operator) (states : ℕ → State) (ready : List Item) (commits : List Commit) (ended : Ended) → IsLeastFirst op states ready commits ended → outcomes_of commits ≡ ended.outcomes → IsSerialRun op states ready commits ended }
 {}
 
 /// In a lawful value of a room that is no book, the live entries of each worker replay with no other live ones.
