@@ -1,4 +1,5 @@
 pub mod EntryLists
+pub mod Others
 pub mod StateTerms
 pub mod Swapping
 pub mod Leaving
