@@ -1,5 +1,5 @@
 use Rattle.std.proofs.Common.{◌+◌, ◌++◌, ◌∷◌, [], arith, sym, ◌∙◌, ap, vec_len, vec_capacity}
-use Rattle.gate_core.proofs.Walking.{Numbered, numbered_one, numbered_past}
+use Rattle.gate_core.proofs.lists.Walking.{Numbered, numbered_one, numbered_past}
 use Rattle.gate_core.proofs.entries.append_done.Goals as goal
 use Rattle.gate_core.proofs.entries.append_done.Goals.{then-is_entry_of, else-is_entry_of}
 

@@ -4,8 +4,8 @@ use Rattle.gx_base.specs.TableRows.{row_of}
 use Rattle.gx_base.specs.declared.acts.Entry.{Entry}
 use Rattle.gate_core.specs.Replays.{start_of}
 use Rattle.gate_core.specs.CallAnswers.{TellsOf}
-use Rattle.gate_core.proofs.Failing.{fails_at, tells}
-use Rattle.gate_core.proofs.Others.{none_in_way}
+use Rattle.gate_core.proofs.replays.Failing.{fails_at, tells}
+use Rattle.gate_core.proofs.lists.Others.{none_in_way}
 use Rattle.gate_core.proofs.gates.conflict.Goals as goal
 
 pub returns-then-are_all_of-clause-told : goal.returns-then-are_all_of-clause-told

@@ -5,8 +5,8 @@ use Rattle.gate_core.specs.declared.refusals.GateRefuse.TheVariants.{Conflict}
 use Rattle.gate_core.specs.Entries.{made_of}
 use Rattle.gate_core.specs.Views.{GateView, rows_of, live_start, asked_entry, in_way}
 use Rattle.gate_core.specs.CallAnswers.{IsAdmitted, TellsOf, RefusalFits}
-use Rattle.gate_core.proofs.EntryLists.{each_same}
-use Rattle.gate_core.proofs.Asking.{Asks, asks, lead_to, rooms_asked, told_of, taken_back, same_view, gate_same, gate_admits, admitted}
+use Rattle.gate_core.proofs.lists.EntryLists.{each_same}
+use Rattle.gate_core.proofs.deeds.Asking.{Asks, asks, lead_to, rooms_asked, told_of, taken_back, same_view, gate_same, gate_admits, admitted}
 use Rattle.gate_core.proofs.gates.Gate.call.Goals as goal
 
 pub conflict-requires-clause-roomed : goal.conflict-requires-clause-roomed

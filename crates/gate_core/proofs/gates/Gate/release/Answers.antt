@@ -3,7 +3,7 @@ use Rattle.gx_base.specs.Kinds.{kind_number}
 use Rattle.gx_base.specs.declared.acts.Entry.{Entry}
 use Rattle.gate_core.specs.Entries.{entries_of, others_than, has_entry, done_under}
 use Rattle.gate_core.specs.Views.{GateView}
-use Rattle.gate_core.proofs.Withdrawing.{gate_releases}
+use Rattle.gate_core.proofs.deeds.Withdrawing.{gate_releases}
 use Rattle.gate_core.proofs.gates.Gate.release.Goals as goal
 
 pub invariant_of-self : goal.invariant_of-self

@@ -6,8 +6,8 @@ use Rattle.gate_core.specs.Entries.{has_entry, last_of, without_last}
 use Rattle.gate_core.specs.Places.{IsLastPlace}
 use Rattle.gate_core.specs.Views.{GateView, undo_last}
 use Rattle.gate_core.specs.CallAnswers.{call_of}
-use Rattle.gate_core.proofs.EntryLists.{loses_last}
-use Rattle.gate_core.proofs.Withdrawing.{last_at, roomed_last, undone_view, same_undone, none_back, gate_undoes}
+use Rattle.gate_core.proofs.lists.EntryLists.{loses_last}
+use Rattle.gate_core.proofs.deeds.Withdrawing.{last_at, roomed_last, undone_view, same_undone, none_back, gate_undoes}
 use Rattle.gate_core.proofs.gates.Gate.undo_last.Goals as goal
 
 pub returns-in_err-place-clause-new : goal.returns-in_err-place-clause-new

@@ -1,7 +1,7 @@
 use Rattle.std.proofs.Common.{◌+◌, ◌≤◌, length, List, sym, subst, arith}
 use Rattle.gx_base.specs.declared.acts.Entry.{Entry}
 use Rattle.gate_core.specs.Entries.{one_if_other}
-use Rattle.gate_core.proofs.Others.{first_within}
+use Rattle.gate_core.proofs.lists.Others.{first_within}
 use Rattle.gate_core.proofs.live.LiveEntries.push_reserved.Goals as goal
 
 pub prove-unreachable-requires : goal.prove-unreachable-requires

@@ -1,7 +1,7 @@
 use Rattle.std.proofs.Common.{◌≡◌, ◌+◌, List, sym, ◌∙◌, subst}
 use Rattle.gx_base.specs.declared.acts.Entry.{Entry}
 use Rattle.gate_core.specs.Entries.{others_of_first, one_if_other}
-use Rattle.gate_core.proofs.Others.{others_removed}
+use Rattle.gate_core.proofs.lists.Others.{others_removed}
 use Rattle.gate_core.proofs.live.LiveEntries.remove.Goals as goal
 
 pub others_without-self-requires : goal.others_without-self-requires

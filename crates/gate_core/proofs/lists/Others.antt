@@ -11,7 +11,7 @@ use Rattle.gx_base.specs.Tables.{Rows}
 use Rattle.gx_base.specs.declared.acts.Entry.{Entry}
 use Rattle.gate_core.specs.Entries.{made_of, is_of, others_than, others_of_first, one_if_other}
 use Rattle.gate_core.specs.Replays.{seen_at, further, first_failing}
-use Rattle.gate_core.proofs.EntryLists.{numbers_of}
+use Rattle.gate_core.proofs.lists.EntryLists.{numbers_of}
 
 is_of_own : (x : Entry) → is_of x.worker x.iter x ≡ true
 is_of_own x = λ i. (unsigned_Decides x.worker x.worker).1 refl i && (unsigned_Decides x.iter x.iter).1 refl i
