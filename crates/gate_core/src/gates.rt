@@ -118,7 +118,8 @@ impl<T: SeqType, S: Screen<T>> Gate<T, S> {
         self.mark
     }
 
-    /// Does a call, unless an uncommitted entry of another iteration is in its way.
+    /// Does a call, unless an uncommitted entry of another iteration is in its way. Where there is none of
+    /// another iteration, that takes no longer in a gate with many entries than in one with few.
     pub fn call(
         &mut self,
         worker: u32,
@@ -150,7 +151,8 @@ impl<T: SeqType, S: Screen<T>> Gate<T, S> {
         }
     }
 
-    /// Takes back the last uncommitted call of an iteration. Takes no memory.
+    /// Takes back the last uncommitted call of an iteration. Takes no memory, and no walk past other entries
+    /// where that call is the last of the gate.
     pub fn undo_last(&mut self, worker: u32, iter: u64) -> Option<(Call, Reply)>
         ensures new { self.new ≡ undo_last self.old worker iter }
         ensures back { result ≡ call_of (last_of worker iter self.old.live) }
