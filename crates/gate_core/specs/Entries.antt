@@ -1,5 +1,5 @@
 -- The entries of a gate, and those of one iteration or one worker among them.
-use Rattle.std.specs.Prelude.{◌≡◌, ◌≢◌, ℕ, ◌+◌, ◌≤◌, Bool, false, not, ◌&&◌, ◌||◌, ◌==◌, if◌then◌else◌, Option, Some, None, List, [], ◌∷◌, ◌++◌, filter, ⊤}
+use Rattle.std.specs.Prelude.{◌≡◌, ◌≢◌, ℕ, ◌+◌, ◌≤◌, Bool, false, not, ◌&&◌, ◌||◌, ◌==◌, if◌then◌else◌, Option, Some, None, List, [], ◌∷◌, ◌++◌, filter, length, ⊤}
 use Rattle.gx_base.specs.declared.acts.Entry.{Entry}
 pub use Rattle.gx_base.specs.Entries.{made_of, mades_of, entries_by}
 
@@ -20,6 +20,16 @@ others_than worker iter es = filter (λ e. not (is_of worker iter e)) es
 abbrev pub has_entry : ℕ → ℕ → List Entry → Bool
 has_entry worker iter [] = false
 has_entry worker iter (e ∷ es) = is_of worker iter e || has_entry worker iter es
+
+-- how many of the entries are of another iteration than the first of them
+abbrev pub others_of_first : List Entry → ℕ
+others_of_first [] = 0
+others_of_first (e ∷ es) = length (others_than e.worker e.iter (e ∷ es))
+
+-- 1 for an entry of another iteration than the first of these
+abbrev pub one_if_other : List Entry → Entry → ℕ
+one_if_other [] x = 0
+one_if_other (e ∷ es) x = if is_of e.worker e.iter x then 0 else 1
 
 -- the last entry of an iteration, and the entries without it
 abbrev pub last_of : ℕ → ℕ → List Entry → Option Entry

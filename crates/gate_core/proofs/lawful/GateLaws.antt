@@ -5,9 +5,9 @@ use Rattle.gx_base.specs.declared.acts.Entry.{Entry}
 use Rattle.gate_core.specs.Entries.{same_iteration, is_of, entries_of, others_than, entries_by, has_entry, last_of, without_last, Each, mark_after, mark_of, NumbersRise}
 use Rattle.gate_core.specs.Replays.{after, Legal}
 use Rattle.gate_core.specs.Views.{GateView, rows_of, live_start, start, IsLawfulGate, undo_entry, undo_last, undo_times}
-use Rattle.gate_core.proofs.EntryLists.{neither, both_true, both_ways}
-use Rattle.gate_core.proofs.Leaving.{Parted, parted}
-use Rattle.gate_core.proofs.KeptLawful.{Kept, undo_keeps, of_whole, live_of, live_stands, legal_after, legal_join}
+use Rattle.gate_core.proofs.lists.EntryLists.{neither, both_true, both_ways}
+use Rattle.gate_core.proofs.replays.Leaving.{Parted, parted}
+use Rattle.gate_core.proofs.lawful.KeptLawful.{Kept, undo_keeps, of_whole, live_of, live_stands, legal_after, legal_join}
 use Rattle.std.specs.Cmp.{unsigned_Decides}
 
 -- the arrangement leads from the start to the state

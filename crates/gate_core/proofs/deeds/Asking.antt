@@ -15,8 +15,8 @@ use Rattle.gate_core.specs.Entries.{made_of}
 use Rattle.gate_core.specs.Replays.{Legal, start_of, AllSawRight, LeadTo}
 use Rattle.gate_core.specs.Views.{GateView, IsLawfulGate, rows_of, live_start, asked_entry, in_way, admit}
 use Rattle.gate_core.specs.CallAnswers.{AllRoomed, IsGate, IsAdmitted, TellsOf}
-use Rattle.gate_core.proofs.EntryLists.{each_append, each_same}
-use Rattle.gate_core.proofs.KeptLawful.{Kept, admit_keeps, legal_append, saw_append, live_stands, state_stands}
+use Rattle.gate_core.proofs.lists.EntryLists.{each_append, each_same}
+use Rattle.gate_core.proofs.lawful.KeptLawful.{Kept, admit_keeps, legal_append, saw_append, live_stands, state_stands}
 
 start_of-append : (t : State) (es : List Entry) (e : Entry) → start_of t (es ++ e ∷ []) ≡ start_of (inverse t e.call e.reply) es
 start_of-append t [] e = refl

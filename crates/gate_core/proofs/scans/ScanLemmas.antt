@@ -10,9 +10,9 @@ use Rattle.gx_base.specs.declared.acts.Entry.{Entry}
 use Rattle.gate_core.specs.Entries.{Each, made_of, same_iteration}
 use Rattle.gate_core.specs.Replays.{after, seen_at, pair_ok, SawRight, AllSawRight, further, first_failing, SeesRight, IsFirstFailing}
 use Rattle.gate_core.specs.Scans.{SeesFirstAlone, log_ok}
-use Rattle.gate_core.proofs.EntryLists.{some_same}
-use Rattle.gate_core.proofs.StateTerms.{named_same, named_used}
-use Rattle.gate_core.proofs.Walking.{get_at, parted_at}
+use Rattle.gate_core.proofs.lists.EntryLists.{some_same}
+use Rattle.gate_core.proofs.replays.StateTerms.{named_same, named_used}
+use Rattle.gate_core.proofs.lists.Walking.{get_at, parted_at}
 
 pub saw_front : (rows : Rows) (s : State) (xs ys : List Entry) → AllSawRight rows s (xs ++ ys) → AllSawRight rows s xs
 saw_front rows s [] ys h = tt

@@ -11,8 +11,8 @@ use Rattle.gate_core.specs.declared.refusals.Told.{Told}
 use Rattle.gate_core.specs.Entries.{made_of, same_iteration}
 use Rattle.gate_core.specs.Replays.{after, seen_at, pair_ok, further, first_failing, SeesRight, IsFirstFailing}
 use Rattle.gate_core.specs.CallAnswers.{Tells}
-use Rattle.gate_core.proofs.EntryLists.{some_same}
-use Rattle.gate_core.proofs.StateTerms.{named_same}
+use Rattle.gate_core.proofs.lists.EntryLists.{some_same}
+use Rattle.gate_core.proofs.replays.StateTerms.{named_same}
 
 -- the place that is found is one of the list, and its entry may not be live with the asked one
 pub record FailsAt (rows : Rows) (s : State) (es : List Entry) (asked : Entry) (place : ℕ) : Type 0 where

@@ -8,9 +8,9 @@ use Rattle.gx_base.proofs.CallerLemmas.{undoes}
 use Rattle.gx_base.specs.declared.acts.Entry.{Entry}
 use Rattle.gate_core.specs.Entries.{same_iteration, is_of, has_entry, last_of, without_last, Each}
 use Rattle.gate_core.specs.Replays.{after, Legal, AllCalls, pair_ok, PairsFit, SawRight, AllSawRight, Stands}
-use Rattle.gate_core.proofs.EntryLists.{some_same, neither, of_same, same_turn, each_filter, each_without, each_same}
+use Rattle.gate_core.proofs.lists.EntryLists.{some_same, neither, of_same, same_turn, each_filter, each_without, each_same}
 use Rattle.gate_core.specs.Swaps.{Swapped}
-use Rattle.gate_core.proofs.Swapping.{stands_next, swapped}
+use Rattle.gate_core.proofs.replays.Swapping.{stands_next, swapped}
 
 -- none of the entries is of the entry's iteration
 abbrev pub NoneOf : Entry → List Entry → Type 0

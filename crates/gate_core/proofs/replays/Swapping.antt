@@ -11,7 +11,7 @@ use Rattle.gx_base.specs.declared.acts.Entry.{Entry}
 use Rattle.gate_core.specs.Entries.{made_of, same_iteration}
 use Rattle.gate_core.specs.Replays.{seen_at, pair_ok, SawRight, Stands}
 use Rattle.gate_core.specs.Swaps.{Swapped}
-use Rattle.gate_core.proofs.StateTerms.{blind}
+use Rattle.gate_core.proofs.replays.StateTerms.{blind}
 
 or_false : (p q : Bool) → p ≡ false → (p || q) ≡ true → q ≡ true
 or_false true q e h = absurd (cc)

@@ -9,7 +9,7 @@ use Rattle.cond_lattice.specs.declared.grades.Grade.TheVariants.{General}
 use Rattle.cond_lattice.specs.Grades.{table_grade}
 use Rattle.cond_lattice.proofs.CallerLemmas.{row_nameless}
 use Rattle.gate_core.specs.Scans.{SeesFirstAlone}
-use Rattle.gate_core.proofs.EntryLists.{both_true}
+use Rattle.gate_core.proofs.lists.EntryLists.{both_true}
 
 blind_by : (kind : ℕ) (rows : Rows) (first second : ℕ) (b : Bool) → (is_method kind first && is_method kind second) ≡ b → table_grade kind rows ≢ General → KeepsToKind kind rows → names_state Second (rows first second) ≡ false
 blind_by kind rows first second true q n k =

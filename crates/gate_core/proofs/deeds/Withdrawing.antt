@@ -11,8 +11,8 @@ use Rattle.gate_core.specs.Entries.{made_of, is_of, entries_of, others_than, has
 use Rattle.gate_core.specs.Places.{IsLastPlace}
 use Rattle.gate_core.specs.Views.{GateView, undo_entry, undo_last, release}
 use Rattle.gate_core.specs.CallAnswers.{AllRoomed, IsGate, call_of}
-use Rattle.gate_core.proofs.EntryLists.{neither, each_at, each_same, each_filter, each_without}
-use Rattle.gate_core.proofs.KeptLawful.{undo_entry_keeps, release_keeps}
+use Rattle.gate_core.proofs.lists.EntryLists.{neither, each_at, each_same, each_filter, each_without}
+use Rattle.gate_core.proofs.lawful.KeptLawful.{undo_entry_keeps, release_keeps}
 
 -- what is taken out of the place is the last entry
 pub last_at : (worker iter : ℕ) (es : List Entry) (place : ℕ) (e : Entry) → IsLastPlace worker iter es (Some place) → e ≡ get_or es place e → last_of worker iter es ≡ Some e

@@ -11,9 +11,9 @@ use Rattle.gx_base.specs.declared.acts.Entry.{Entry}
 use Rattle.gate_core.specs.Entries.{same_iteration, is_of, entries_of, others_than, has_entry, last_of, without_last, done_under, Each, mark_after, mark_of, NumbersRise}
 use Rattle.gate_core.specs.Replays.{after, Legal, start_of, AllCalls, pair_ok, PairsFit, AllSawRight, further, first_failing, Stands}
 use Rattle.gate_core.specs.Views.{GateView, rows_of, live_start, start, IsLawfulGate, asked_entry, in_way, admit, undo_entry, undo_last, release}
-use Rattle.gate_core.proofs.EntryLists.{of_same, each_append, each_filter, each_without}
-use Rattle.gate_core.proofs.Swapping.{stands_next}
-use Rattle.gate_core.proofs.Leaving.{AreLive, Parted, parted, undone}
+use Rattle.gate_core.proofs.lists.EntryLists.{of_same, each_append, each_filter, each_without}
+use Rattle.gate_core.proofs.replays.Swapping.{stands_next}
+use Rattle.gate_core.proofs.replays.Leaving.{AreLive, Parted, parted, undone}
 
 -- a gate is lawful after a change, with the start of before
 pub record Kept (old new : GateView) : Type 0 where
