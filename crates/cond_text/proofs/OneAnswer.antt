@@ -7,7 +7,7 @@ use Rattle.cond_syntax.specs.TableTexts.{Fault, IsTableText, IsFirstFault}
 use Rattle.cond_text.specs.TextFaults.{IsTold}
 use Rattle.cond_text.specs.declared.faults.TextFault.{TextFault}
 use Rattle.cond_text.specs.declared.faults.TextFault.TheVariants.{Syntax, UnknownMethod, UnknownName, Twice, TooDeep, NoMemory}
-use Rattle.cond_syntax.specs.TableLaws.{same_table, no_fault_of_a_table, same_fault}
+use Rattle.cond_syntax.proofs.CallerLemmas.{same_table, no_fault_of_a_table, same_fault}
 
 -- a text with a table is refused for want of memory alone
 pub told_of_table : (wanted : List Kind) (bytes : List ℕ) (refused : TextFault) → IsTold (IsFirstFault wanted bytes) refused

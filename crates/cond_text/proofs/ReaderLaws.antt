@@ -1,8 +1,8 @@
 -- What tokens lead to, and the levels of open parentheses.
 use Rattle.std.proofs.Common.{◌≡◌, ℕ, List, [], ◌∷◌, ◌++◌, Option, Some, None, Result, Ok, Err, reverse, refl, ap, sym, ◌∙◌}
 use Rattle.std.proofs.lemmas.List.{reverse-append, reverse-reverse}
-use Rattle.cond_syntax.specs.Machine.{State, Frame, operand_read, conjunction_read, First, Operand, whole, whole_or_wrong}
-use Rattle.cond_syntax.specs.Machine as machine
+use Rattle.cond_text.specs.Machine.{State, Frame, operand_read, conjunction_read, First, Operand, whole, whole_or_wrong}
+use Rattle.cond_text.specs.Machine as machine
 use Rattle.cond_syntax.specs.Written.{Written}
 use Rattle.cond_text.specs.CodeTokens.{token_seen}
 use Rattle.cond_text.specs.Comparisons.{term_begun}

@@ -3,8 +3,8 @@ use Rattle.std.proofs.Common.{◌≡◌, Bool, true, false, ◌&&◌, List, [], 
 use Rattle.gx_base.specs.Kinds.{kind_number}
 use Rattle.cond_syntax.specs.Tokens as plain
 use Rattle.cond_syntax.specs.Tokens.{tokens_of}
-use Rattle.cond_syntax.specs.Machine as machine
-use Rattle.cond_syntax.specs.Machine.{State, run, step, ended, whole, whole_or_wrong}
+use Rattle.cond_text.specs.Machine as machine
+use Rattle.cond_text.specs.Machine.{State, run, step, ended, whole, whole_or_wrong}
 use Rattle.cond_syntax.specs.Fronts.{is_cut_from, all_known}
 use Rattle.cond_text.specs.TokenSteps.{opened_after, inside_after, knows}
 use Rattle.cond_text.specs.Sources.{reading, words_known, tokens_ahead, IsLater, Stops, StopsToken}

@@ -3,7 +3,7 @@ use Rattle.std.proofs.Common.{◌≡◌, ℕ, ◌+◌, ◌==◌, cond, Bool, tru
 use Rattle.cond_syntax.specs.Tokens as plain
 use Rattle.cond_syntax.specs.Fronts.{front_from, is_cut_from, all_known}
 use Rattle.cond_syntax.specs.Written.{WrittenTerm, Comparison}
-use Rattle.cond_syntax.specs.Machine.{State, Frame, Due, Second, open_read, word_read, comma_read, close_due, operator_read, term_read}
+use Rattle.cond_text.specs.Machine.{State, Frame, Due, Second, open_read, word_read, comma_read, close_due, operator_read, term_read}
 use Rattle.cond_text.specs.Comparisons.{term_begun}
 use Rattle.cond_text.specs.CodeTokens.{token_seen}
 use Rattle.cond_text.specs.TokenSteps.{opened_after, inside_after, knows}

@@ -1,7 +1,7 @@
 use Rattle.std.proofs.Common.{[], ◌∙◌, refl, arith}
 use Rattle.std.proofs.lemmas.Result.{err_from_is_err_and}
 use Rattle.gx_base.specs.Kinds.{kind_number}
-use Rattle.cond_syntax.specs.Machine.{Operand}
+use Rattle.cond_text.specs.Machine.{Operand}
 use Rattle.cond_text.specs.Readers.{IsRead}
 use Rattle.cond_text.proofs.SourceLaws.{IsLater-then}
 use Rattle.cond_text.proofs.ReaderLaws.{stops_whole, ended_whole}

@@ -1,6 +1,6 @@
 use Rattle.std.proofs.Common.{◌∙◌, ap, refl}
 use Rattle.std.proofs.lemmas.Result.{err_from_is_err_and}
-use Rattle.cond_syntax.specs.Machine.{First, Second, TermDue}
+use Rattle.cond_text.specs.Machine.{First, Second, TermDue}
 use Rattle.cond_text.specs.CodeTokens.{token_seen}
 use Rattle.cond_text.specs.Comparisons.{term_spelled, relation_spelled}
 use Rattle.cond_text.specs.Sources.{reading}

@@ -1,6 +1,6 @@
 use Rattle.std.proofs.Common.{◌∙◌, ap}
 use Rattle.gx_base.specs.Kinds.{kind_number}
-use Rattle.cond_syntax.specs.Machine.{step}
+use Rattle.cond_text.specs.Machine.{step}
 use Rattle.cond_text.specs.CodeTokens.{token_seen}
 use Rattle.cond_text.specs.Sources.{reading}
 use Rattle.cond_text.proofs.SourceLaws.{reading-none}
