@@ -37,7 +37,7 @@ pub(crate) enum Next<'a> {
 }
 
 /// Why reading ends before a condition is whole.
-#[derive(Clone, Copy, Debug, PartialEq, Eq, Drop)]
+#[derive(Clone, Copy, Drop)]
 pub(crate) enum Stop {
     /// What is read can't stand there.
     Wrong,

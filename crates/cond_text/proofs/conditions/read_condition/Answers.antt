@@ -5,7 +5,7 @@ use Rattle.cond_syntax.specs.Fronts.{front_of, all_known}
 use Rattle.cond_text.specs.Machine.{Operand}
 use Rattle.cond_syntax.proofs.CallerLemmas.{wrong_has_no_form}
 use Rattle.cond_text.specs.Drafts.{IsDraft}
-use Rattle.cond_text.proofs.ConditionLaws.{cut_found, whole_found}
+use Rattle.cond_text.proofs.reading.ConditionLemmas.{cut_found, whole_found}
 use Rattle.cond_text.proofs.conditions.read_condition.Goals as goal
 
 pub returns-in-Ok : goal.returns-in-Ok

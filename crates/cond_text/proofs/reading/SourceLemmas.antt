@@ -11,7 +11,7 @@ use Rattle.cond_text.specs.Sources.{reading, words_known, tokens_ahead, IsLater,
 use Rattle.cond_text.specs.declared.sources.Stop.{Stop}
 use Rattle.cond_text.specs.declared.sources.Stop.TheVariants.{Wrong, Cut, NoMemory}
 use Rattle.cond_text.specs.declared.sources.Source.{Source}
-use Rattle.cond_text.proofs.TokenLaws.{front_from-next, is_cut_from-next, front_from-cut, is_cut_from-cut, all_known-next}
+use Rattle.cond_text.proofs.reading.TokenLemmas.{front_from-next, is_cut_from-next, front_from-cut, is_cut_from-cut, all_known-next}
 
 -- the second source is the first after a token
 pub record IsAfter (old : Source) (t : plain.Token) (new : Source) : Type 0 where
