@@ -11,7 +11,7 @@ use Rattle.gx_base.specs.Methods.{is_method}
 use Rattle.gx_base.specs.ShippedTables.{KindTables, rows_chosen, SuitKind}
 use Rattle.gx_base.specs.Tables.{Rows, IsValid, KeepsToKind}
 use Rattle.cond_lattice.specs.Simple.{strengthened}
-use Rattle.cond_lattice.proofs.Bounds.{is_strengthened}
+use Rattle.cond_lattice.proofs.CallerLemmas.{is_strengthened}
 use Rattle.kind_tables.specs.PairConditions.{rows_by}
 
 -- what a kind shows of its tables, by its number
