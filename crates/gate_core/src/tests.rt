@@ -33,8 +33,8 @@ impl SeqType for Meagre {
     ghost use Rattle.gx_base.specs.SetKind.{IsMark};
     ghost use Rattle.gx_base.specs.ShippedTables.{false_rows};
     ghost use Rattle.gx_base.specs.States.{row_cmp};
-    ghost use Rattle.gate_core.proofs.EmptySets.{foreign_high, apart};
-    ghost use Rattle.std.proofs.Common.{subst, sym};
+    ghost use Rattle.gate_core.specs.EmptySetMethods.{foreign_high};
+    ghost use Rattle.std.proofs.Common.{subst, sym, true≢false};
     ghost use Rattle.std.specs.FinMap as map;
 
     ghost state = { λ _. no_state };
@@ -47,7 +47,7 @@ impl SeqType for Meagre {
 
     ghost foreign_roomed = { λ _ made. foreign_high made.call.method };
 
-    ghost tables_suit = { λ _ held. absurd (apart held) };
+    ghost tables_suit = { λ _ held. absurd (true≢false (sym held)) };
 
     ghost known = { λ _ key. subst IsMark (sym (map.get-empty row_cmp key)) tt };
 

@@ -1,26 +1,16 @@
 -- Calls on an empty set that neither add nor remove: the object of this crate's tests.
-use Rattle.std.specs.Prelude.{◌≡◌, ℕ, ℤ, pos, ◌<◌, Bool, true, false, ◌==◌, nat_lt, if◌then◌else◌, is_some, refl}
+use Rattle.std.specs.Prelude.{◌≡◌, ℕ, ℤ, pos, ◌<◌, Bool, true, false, ◌==◌, if◌then◌else◌, is_some, refl}
 use Rattle.std.proofs.Common.{◌∙◌, ap, arith}
-use Rattle.std.proofs.lemmas.Bool.Decides.{nat_tests}
 use Rattle.std.specs.FinMap as map
 use Rattle.std.specs.Cmp.{unsigned_Decides}
 use Rattle.gx_base.specs.declared.calls.Call.{Call}
 use Rattle.gx_base.specs.declared.calls.Reply.{Reply}
 use Rattle.gx_base.specs.States.{row_cmp}
 use Rattle.gx_base.specs.Meanings.{number_reply}
-use Rattle.gx_base.specs.Methods.{is_method}
 use Rattle.gx_base.specs.SetKind.{Add, Remove, Contains, Nothing, set_deed, set_action}
 use Rattle.gx_base.specs.RowActions.{action_next, action_reply, action_inverse}
 use Rattle.gx_base.specs.Replays.{no_state}
 use Rattle.gx_base.specs.Steps.{next_state, reply_to, inverse, observed}
-
--- no kind is held
-pub apart : false ≡ true → ⊥
-apart e = cc
-
--- a method that sets don't have comes after those two
-pub foreign_high : (m : ℕ) → is_method 0 m ≡ false → nat_lt 1 m ≡ true
-foreign_high m h = grind (arith, nat_tests)
 
 -- a method after the two that change sets looks, or does nothing
 looks : (m : ℕ) → 1 < m → set_deed m ≡ (if m == 2 then Contains else Nothing)

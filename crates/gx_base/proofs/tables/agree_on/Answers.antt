@@ -1,6 +1,6 @@
 use Rattle.std.proofs.Common.{◌≡◌, IsTrue, sym, ◌∙◌}
 use Rattle.gx_base.specs.TableRows.{row_of}
-use Rattle.gx_base.proofs.RowPlaces.Agreeing.{agree_here, agree_more}
+use Rattle.gx_base.proofs.table_lemmas.Agreeing.{agree_here, agree_more}
 use Rattle.gx_base.proofs.tables.agree_on.Goals as goal
 
 pub returns-then-not-equals : goal.returns-then-not-equals

@@ -1,6 +1,6 @@
 use Rattle.std.proofs.Common.{IsTrue}
 use Rattle.gx_base.specs.RowLists.{entries_of, AgreeOn}
-use Rattle.gx_base.proofs.RowPlaces.Agreeing.{agree_here_all, agree_more_all}
+use Rattle.gx_base.proofs.table_lemmas.Agreeing.{agree_here_all, agree_more_all}
 use Rattle.gx_base.proofs.tables.agree_on_all.Goals as goal
 
 pub returns-then-not-agree_on : goal.returns-then-not-agree_on

@@ -1,6 +1,6 @@
 use Rattle.std.proofs.Common.{◌≡◌, [], ◌∷◌, ◌++◌, sym, ◌∙◌, ap, subst}
 use Rattle.gx_base.specs.RowLists.{buckets_of, row_map_of, AreBuckets}
-use Rattle.gx_base.proofs.RowPlaces.Buckets.{buckets_of-push, row_map_of-push, AreBuckets-push}
+use Rattle.gx_base.proofs.table_lemmas.Buckets.{buckets_of-push, row_map_of-push, AreBuckets-push}
 use Rattle.gx_base.proofs.tables.make_buckets.Goals as goal
 
 pub more-preserved : goal.more-preserved

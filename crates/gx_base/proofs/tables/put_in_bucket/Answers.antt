@@ -3,7 +3,7 @@ use Rattle.std.proofs.lemmas.Result.{on_ok_weaker, on_err_weaker}
 use Rattle.std.specs.FinMap as map
 use Rattle.gx_base.specs.Conditions.{condition_of}
 use Rattle.gx_base.specs.RowLists.{row_map_of}
-use Rattle.gx_base.proofs.RowPlaces.Buckets.{put_there, same_there, kept_after}
+use Rattle.gx_base.proofs.table_lemmas.Buckets.{put_there, same_there, kept_after}
 use Rattle.gx_base.proofs.tables.put_in_bucket.Goals as goal
 
 pub returns-clause-ok : goal.returns-clause-ok

@@ -1,7 +1,7 @@
 use Rattle.std.proofs.Common.{◌≡◌, ℕ, subst}
 use Rattle.gx_base.specs.TableRows.{RowMap, row_of}
 use Rattle.gx_base.specs.RowLists.{buckets_of, entries_in, row_map_of, AgreeOn}
-use Rattle.gx_base.proofs.RowPlaces.Agreeing.{AgreeOn-all, agree_by_rows}
+use Rattle.gx_base.proofs.table_lemmas.Agreeing.{AgreeOn-all, agree_by_rows}
 use Rattle.gx_base.proofs.tables.Table.equals.Goals as goal
 
 pub returns-else-agree_on_all : goal.returns-else-agree_on_all

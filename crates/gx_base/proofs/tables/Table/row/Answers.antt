@@ -4,8 +4,8 @@ use Rattle.gx_base.specs.declared.tables.Row.{Row}
 use Rattle.gx_base.specs.Conditions.{condition_of}
 use Rattle.gx_base.specs.TableRows.{RowMap, row_of}
 use Rattle.gx_base.specs.RowLists.{is_row_of}
-use Rattle.gx_base.proofs.RowPlaces.InBucket.{found_at, is_false-is}
-use Rattle.gx_base.proofs.RowPlaces.Buckets.{row_of-found, row_of-missed, row_of-past}
+use Rattle.gx_base.proofs.table_lemmas.InBucket.{found_at, is_false-is}
+use Rattle.gx_base.proofs.table_lemmas.Buckets.{row_of-found, row_of-missed, row_of-past}
 use Rattle.gx_base.proofs.tables.Table.row.Goals as goal
 use Rattle.gx_base.proofs.tables.Table.row.Goals.{then-number-len+in_default, else-number-len}
 

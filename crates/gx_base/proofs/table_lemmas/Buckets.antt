@@ -13,7 +13,7 @@ use Rattle.gx_base.specs.Conditions.{Condition, False, condition_of}
 use Rattle.gx_base.specs.TableRows.{pair_cmp, row_of, row_or_false}
 use Rattle.gx_base.proofs.table_lemmas.TableRowLaws.{pair_cmp_total, pair_cmp-IsAntisymmetric, same_pair, same_pair-is}
 use Rattle.gx_base.specs.RowLists.{Entry, is_row_of, entries_of, buckets_of, entries_in, row_map_of, bucket_number, AllBelong, IsBucket, AreBuckets, IsRowPut}
-use Rattle.gx_base.proofs.RowPlaces.InBucket.{found_at, missed_at}
+use Rattle.gx_base.proofs.table_lemmas.InBucket.{found_at, missed_at}
 
 abbrev found_in : (ℕ × ℕ) → List Entry → Option Condition
 found_in q entries = finite.find pair_cmp q entries

@@ -1,3 +1,0 @@
-pub mod InBucket
-pub mod Buckets
-pub mod Agreeing
