@@ -10,8 +10,8 @@ pub use Rattle.gx_base.proofs.object_kinds.FlowLaws.{flow_use-foreign}
 pub use Rattle.gx_base.proofs.object_kinds.PointLaws.{point_deed-foreign}
 pub use Rattle.gx_base.proofs.object_kinds.DomainLaws.{domain_deed-foreign, IsSum, dom_stays, aimed-same, aimed-IsCall, domain_next-HoldsNumbers}
 pub use Rattle.gx_base.proofs.object_kinds.KnownLaws.{laws_of, kind-next_state, next_state-IsState, undoes}
-pub use Rattle.gx_base.proofs.table_lemmas.BelowLaws.{IsBelow-itself, False-IsBelow, IsBelow-True, IsBelow-left, IsBelow-right, below-IsValid}
-pub use Rattle.gx_base.proofs.table_lemmas.TableRowLaws.{pair_cmp_total, same_pair, same_pair-is, same_pair-sym, same_pair-parts, row_of-empty, row_of-insert}
+pub use Rattle.gx_base.proofs.table_lemmas.BelowLaws.{IsBelow-itself, False-IsBelow, IsBelow-True, below-IsValid}
+pub use Rattle.gx_base.proofs.table_lemmas.TableRowLaws.{put_row, pair_cmp_total, same_pair, same_pair-is, same_pair-sym, same_pair-parts, row_of-empty, row_of-insert}
 pub use Rattle.gx_base.proofs.replays.CallReplays.{after-Legal, start_of-Legal, Legal-split, Legal-append}
 pub use Rattle.gx_base.proofs.replays.RoomReplays.{Replays-apart, Replays-merged, Replays-ends, Replays-split, Replays-append, part-append}
 pub use Rattle.gx_base.proofs.bodies.BodyReplays.{body-Replays}

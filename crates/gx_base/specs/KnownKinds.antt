@@ -21,10 +21,6 @@ said_among said (kind ∷ kinds) (suc place) = said_among said kinds place
 abbrev pub said_of {ℓ} : {A : Type ℓ} → (ObjectKind → A) → ℕ → A
 said_of said number = said_among said known_kinds number
 
--- the kind of a number
-abbrev pub kind_at : ℕ → ObjectKind
-kind_at number = said_of (λ kind. kind) number
-
 -- the number of the first kind that has a method, where these kinds are numbered on from the one given, and the number past them where none has
 abbrev pub number_with : List ObjectKind → ℕ → ℕ → ℕ
 number_with [] number method = number

@@ -8,7 +8,6 @@ pub mod SetKind
 pub mod RegisterDeeds
 pub mod CellsKind
 pub mod FlowKind
-pub mod RegisterUses
 pub mod PointKind
 pub mod DomainKind
 pub mod KnownKinds

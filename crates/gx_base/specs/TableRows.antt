@@ -27,7 +27,3 @@ row_or_false (Some condition) = condition
 -- the row of two methods, of which the first ran first. A row that doesn't stand in the table is false
 abbrev pub row_of : RowMap → ℕ → ℕ → Condition
 row_of rows first second = row_or_false (map.get rows (first, second))
-
--- these rows, with another condition for two methods
-abbrev pub put_row : (ℕ → ℕ → Condition) → ℕ → ℕ → Condition → ℕ → ℕ → Condition
-put_row rows first second condition m n = if (first == m) && (second == n) then condition else rows m n

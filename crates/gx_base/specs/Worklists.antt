@@ -45,8 +45,3 @@ with_items ys (x ∷ xs) = with_items (with_item ys x) xs
 unfoldable pub is_least : List Item → Item → Bool
 is_least [] x = true
 is_least (y ∷ ys) x = not (is_before y x) && is_least ys x
-
--- each item is the least of those from it on
-abbrev pub IsSorted : List Item → Type 0
-IsSorted [] = ⊤
-IsSorted (x ∷ xs) = (is_least xs x ≡ true) × IsSorted xs

@@ -16,7 +16,7 @@ ghost use Rattle.gx_base.specs.Methods.{is_method};
 ghost use Rattle.gx_base.specs.ForeignMethods.{ChangesNothing};
 ghost use Rattle.gx_base.specs.Plans.{Plan, Done, Operator, Follows};
 ghost use Rattle.gx_base.specs.Outcomes.{Commit, outcomes_of, journal};
-ghost use Rattle.gx_base.specs.RoomViews.{ReplaysAlone};
+ghost use Rattle.gx_base.specs.RoomViews.{RoomView, room_view_code, ReplaysAlone};
 ghost use Rattle.gx_base.specs.Replays.{after, Legal, start_of, AreCalls, part, Replays};
 ghost use Rattle.gx_base.specs.BodyRuns.{then_step, RunsTo};
 ghost use Rattle.gx_base.specs.SerialIterations.{body, Ended, serial, then_serial};
@@ -68,6 +68,8 @@ pub fn replays_split_and_join()
     ensures split { (states ends : ℕ → State) (xs ys : List Step) → Replays states (xs ++ ys) ends → (between : ℕ → State) × Replays states xs between × Replays between ys ends }
     ensures joined { (states between ends : ℕ → State) (xs ys : List Step) → Replays states xs between → Replays between ys ends → Replays states (xs ++ ys) ends }
     ensures parts { (room : ℕ) (xs ys : List Step) → part room (xs ++ ys) ≡ part room xs ++ part room ys }
+    ensures split_calls { (s t : State) (xs ys : List Made) → Legal s (xs ++ ys) t → Legal s xs (after s xs) × Legal (after s xs) ys t }
+    ensures joined_calls { (s between t : State) (xs ys : List Made) → Legal s xs between → Legal between ys t → Legal s (xs ++ ys) t }
 {}
 
 /// A run of a plan by replies to its end, whose steps replay from some states, is the body on these states.
@@ -112,6 +114,11 @@ pub fn runs_in_turn_are_serial()
 /// Commits of which each was the least ready one at its turn, with what their bodies did, are a serial run, ordered or not.
 pub fn least_first_runs_are_serial()
     ensures { (op : Operator) (states : ℕ → State) (ready : List Item) (commits : List Commit) (ended : Ended) → IsLeastFirst op states ready commits ended → outcomes_of commits ≡ ended.outcomes → IsSerialRun op states ready commits ended }
+{}
+
+/// What rooms tell of their values is stored by codes that tell any two of them apart.
+pub fn codes_tell_room_views_apart()
+    ensures { (view other : RoomView) → room_view_code.code view ≡ room_view_code.code other → view ≡ other }
 {}
 
 /// In a lawful value of a room that is no book, the live entries of each worker replay with no other live ones.

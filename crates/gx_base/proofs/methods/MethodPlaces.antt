@@ -47,12 +47,6 @@ within_of kind method e =
     let p = and_parts (nat_le (first_method kind) method) (nat_lt method (first_method kind + length (words_of kind))) e in
     record { from = leb-true _ _ p.0; upto = ltb-true _ _ p.1 }
 
-pub method_from : (kind place method : ℕ) → IsAt kind place method → is_method kind method ≡ true
-method_from kind place method here =
-    let number : method ≡ first_method kind + place = here.number in
-    let within : place < length (words_of kind) = here.within in
-    and_from _ _ (le-leb (first_method kind) method (omega arith)) (lt-ltb method (first_method kind + length (words_of kind)) (omega arith))
-
 -- what holds of the methods before a place and of the one there holds of those before the next
 pub one_more : (kind place method : ℕ) (P : ℕ → Type 0) → method_at kind place ≡ Some method
     → ((n : ℕ) → is_method kind n ≡ true → n < first_method kind + place → P n) → P method

@@ -90,12 +90,6 @@ False-IsBelow d = record { truth = λ first second seen t. absurd (cc); terms = 
 pub IsBelow-True : (c : Condition) → ((side : Side) → names_state side c ≡ false) → IsBelow c True
 IsBelow-True c silent = record { truth = λ first second seen t. refl; terms = λ side e. let n : names_state side c ≡ false = silent side in absurd (cc) }
 
-pub IsBelow-left : (c d : Condition) → IsBelow c (Or c d)
-IsBelow-left c d = record { truth = λ first second seen t. or_left _ _ t; terms = λ side e. or_left _ _ e }
-
-pub IsBelow-right : (c d : Condition) → IsBelow d (Or c d)
-IsBelow-right c d = record { truth = λ first second seen t. or_right _ _ t; terms = λ side e. or_right _ _ e }
-
 -- a table below a valid one is valid
 pub below-IsValid : (kind : ℕ) (lower upper : Rows) → AreBelow lower upper → IsValid kind upper → IsValid kind lower
 below-IsValid kind lower upper h v = record {

@@ -1,5 +1,5 @@
 -- Laws of the rows of tables: what `row_of` has in an empty table, and after a row was put.
-use Rattle.std.specs.Prelude.{◌≡◌, ℕ, ◌==◌, ◌&&◌, Bool, true, false, cond, Option, Some, refl}
+use Rattle.std.specs.Prelude.{◌≡◌, ℕ, ◌==◌, ◌&&◌, if◌then◌else◌, Bool, true, false, cond, Option, Some, refl}
 use Rattle.std.proofs.Common.{◌∙◌, ap}
 use Rattle.std.specs.FinMap as map
 use Rattle.std.specs.Ordering.{nat_cmp, ordering_then, is_eq, eq_by_cmp}
@@ -7,7 +7,7 @@ use Rattle.std.specs.declared.cmp.Ordering.{Ordering}
 use Rattle.std.specs.declared.cmp.Ordering.TheVariants.{Less, Equal, Greater}
 use Rattle.std.specs.Cmp.{IsTotalOrder, nat_cmp_total, unsigned_tied, then_total, on_total, Equal-is, eq_by_cmp_equiv}
 use Rattle.gx_base.specs.Conditions.{Condition, False}
-use Rattle.gx_base.specs.TableRows.{pair_cmp, RowMap, row_of, row_or_false, put_row}
+use Rattle.gx_base.specs.TableRows.{pair_cmp, RowMap, row_of, row_or_false}
 
 pub pair_cmp_total : IsTotalOrder pair_cmp
 pair_cmp_total = then_total (on_total (λ (x : ℕ × ℕ). x.0) nat_cmp_total) (on_total (λ (x : ℕ × ℕ). x.1) nat_cmp_total)
@@ -29,9 +29,6 @@ same_pair x y = eq_by_cmp pair_cmp x y
 pub same_pair-is : (x y : ℕ × ℕ) → same_pair x y ≡ true → x ≡ y
 same_pair-is x y e = pair_cmp-IsAntisymmetric x y ((Equal-is (pair_cmp x y)).0 e)
 
-pub same_pair-itself : (x : ℕ × ℕ) → same_pair x x ≡ true
-same_pair-itself x = (eq_by_cmp_equiv pair_cmp_total).refl x
-
 pub same_pair-sym : (x y : ℕ × ℕ) → same_pair x y ≡ same_pair y x
 same_pair-sym x y = (eq_by_cmp_equiv pair_cmp_total).symm x y
 
@@ -49,6 +46,10 @@ same_pair-parts x y =
 -- every row of an empty table is false
 pub row_of-empty : (first second : ℕ) → row_of map.empty first second ≡ False
 row_of-empty first second = ap row_or_false (map.get-empty pair_cmp (first, second))
+
+-- these rows, with another condition for two methods
+abbrev pub put_row : (ℕ → ℕ → Condition) → ℕ → ℕ → Condition → ℕ → ℕ → Condition
+put_row rows first second condition m n = if (first == m) && (second == n) then condition else rows m n
 
 row_by : (b : Bool) (condition : Condition) (o : Option Condition) → row_or_false (cond b (Some condition) o) ≡ cond b condition (row_or_false o)
 row_by true condition o = refl
