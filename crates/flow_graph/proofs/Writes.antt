@@ -1,5 +1,5 @@
 -- What reads and writes of one number are in the state of a shard.
-use Rattle.std.proofs.Common.{◌≡◌, ℕ, zero, suc, ℤ, List, sym, ◌∙◌, ap, subst, IsTrue}
+use Rattle.std.proofs.Common.{◌≡◌, ℕ, zero, suc, ℤ, List, refl, sym, ◌∙◌, ap, subst, IsTrue}
 use Rattle.std.specs.FinMap as map
 use Rattle.gx_base.specs.declared.calls.Made.{Made}
 use Rattle.gx_base.specs.States.{State, row_cmp, rows_with, number_at, with_number}
@@ -14,7 +14,7 @@ use Rattle.flow_graph.specs.declared.uses.Quantity.{Quantity}
 use Rattle.flow_graph.specs.declared.uses.Quantity.TheVariants.{Height, Excess, Flow}
 use Rattle.flow_graph.specs.Uses.{sort_of}
 use Rattle.flow_graph.specs.FlowRows.{Numbers, flow_rows, flow_rows-height, flow_rows-excess, flow_rows-flow, number-heights, number-excesses, number-flows}
-use Rattle.flow_graph.specs.FlowState.{has_row_in, room_for, has_room_in}
+use Rattle.flow_graph.specs.FlowState.{numbers_of, has_row_in, room_for, has_room_in}
 
 abbrev pub with_rows : map.FinMap row_cmp (List ℤ) → State
 with_rows rows = record { kind = 2; rows = rows }
@@ -87,3 +87,18 @@ flows_kept s n h made r = room-kept (flow_use made.call.method) s (record s { fl
     kept zero q t = t
     kept (suc zero) q t = t
     kept (suc (suc i)) q t = h q t
+
+room-same : (u : Use) (s t : FlowShard) (k : ℤ) → ((sort : ℕ) → numbers_of t sort ≡ numbers_of s sort) → room_for u t k ≡ room_for u s k
+room-same Nothing s t k h = refl
+room-same (On sort Reads) s t k h = refl
+room-same (On sort Adds) s t k h = ap (λ m. map.contains_key m k) (h sort)
+room-same (On sort Sets) s t k h = ap (λ m. map.contains_key m k) (h sort)
+
+-- the same rows are the same rooms
+pub rooms_same : (s t : FlowShard) → rows_of t.heights ≡ rows_of s.heights → rows_of t.excesses ≡ rows_of s.excesses → rows_of t.flows ≡ rows_of s.flows → (made : Made) → has_room_in t made ≡ has_room_in s made
+rooms_same s t h e f made = room-same (flow_use made.call.method) s t made.call.a same
+  where
+    same : (sort : ℕ) → numbers_of t sort ≡ numbers_of s sort
+    same zero = h
+    same (suc zero) = e
+    same (suc (suc n)) = f

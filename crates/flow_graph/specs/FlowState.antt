@@ -15,7 +15,7 @@ use Rattle.gx_base.specs.FlowKind.{flow_use}
 use Rattle.gx_base.specs.Steps.{IsState}
 use Rattle.kind_tables.specs.FlowTables.{flow_tables}
 use Rattle.kind_tables.proofs.CallerLemmas.{tables_of-SuitKind}
-use Rattle.number_rows.specs.NumberRows.{rows_of, number-fits}
+use Rattle.number_rows.specs.NumberRows.{rows_of, number-fits, IsLean}
 use Rattle.flow_graph.specs.declared.shard.FlowShard.{FlowShard}
 use Rattle.flow_graph.specs.FlowRows.{Numbers, flow_rows, flow_rows-HoldNumbers}
 
@@ -41,6 +41,10 @@ room_for (On sort Sets) shard k = has_row_in shard sort k
 -- a call that writes has its row, so it is undone and done again in that row
 abbrev pub has_room_in : FlowShard → Made → Bool
 has_room_in shard made = room_for (flow_use made.call.method) shard made.call.a
+
+-- each table of the shard is lean
+abbrev pub IsLeanShard : FlowShard → Type 0
+IsLeanShard shard = IsLean shard.heights × IsLean shard.excesses × IsLean shard.flows
 
 abbrev pub holds_flow : Kind → Bool
 holds_flow Flow = true

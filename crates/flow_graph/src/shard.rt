@@ -1,10 +1,10 @@
-ghost use Rattle.std.specs.Prelude.{◌≡◌, IsTrue, OnOk, OnErr};
+ghost use Rattle.std.specs.Prelude.{◌≡◌, IsTrue, IsOk, OnOk, OnErr};
 ghost use Rattle.std.specs.FinMap as map;
 ghost use Rattle.gx_base.specs.declared.calls.Made.{Made};
 ghost use Rattle.gx_base.specs.States.{number_at, with_number};
 ghost use Rattle.gx_base.specs.Meanings.{number_reply as reply_of};
 ghost use Rattle.flow_graph.specs.Uses.{sort_of};
-ghost use Rattle.flow_graph.specs.FlowState.{state_of, has_row_in, has_room_in};
+ghost use Rattle.flow_graph.specs.FlowState.{state_of, has_row_in, has_room_in, IsLeanShard};
 
 use crate::shipping::flow_table;
 use crate::uses::{Deed, Quantity, use_of};
@@ -184,7 +184,13 @@ impl SeqType for FlowShard {
         0
     }
 
-    fn tidy(&mut self) -> Result<(), NoMemory> {
+    // Never fails, and keeps every room where each table is lean already.
+    fn tidy(&mut self) -> Result<(), NoMemory>
+        ensures state { state_of self.new ≡ state_of self.old }
+        ensures succeeds { IsOk result }
+        ensures lean { IsLeanShard self.new }
+        ensures idle { IsLeanShard self.old → (made : Made) → has_room_in self.new made ≡ has_room_in self.old made }
+    {
         self.heights.tidy();
         self.excesses.tidy();
         self.flows.tidy();

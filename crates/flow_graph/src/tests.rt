@@ -100,10 +100,10 @@ fn a_relabel_is_taken_back_to_the_old_height(rt: HostRuntime) -> Result<(), Fail
 fn tidy_keeps_the_numbers_and_drops_dead_rows(rt: HostRuntime) -> Result<(), Fail> {
     for (method, reads) in [(RELABEL, HEIGHT), (GAIN, EXCESS), (SEND, FLOW)] {
         let mut shard = FlowShard::new(rt.alloc());
-        for key in 0..6 {
+        for key in 0..64 {
             shard.apply(call(method, key, 5))?;
         }
-        for key in 1..6 {
+        for key in 1..64 {
             assert!(rt; taken_back(&mut shard, call(method, key, 5), reply(0)));
         }
         shard.tidy()?;

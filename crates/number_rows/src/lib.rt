@@ -6,7 +6,7 @@
 
 mod rows;
 
-pub use rows::NumberRows;
+pub use rows::{LEAST_TIDIED, NumberRows};
 
 #[cfg(test)]
 mod tests;

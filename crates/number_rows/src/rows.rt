@@ -1,9 +1,13 @@
-ghost use Rattle.std.specs.Prelude.{◌≡◌, ◌≤◌, ◌*◌, ℤ, IsTrue, IsOk, OnOk, OnErr, not};
+ghost use Rattle.std.specs.Prelude.{◌≡◌, ℤ, IsTrue, IsOk, OnOk, OnErr, not};
 ghost use Rattle.number_rows.specs.Entries.{FitAll, dead_in, is_zero, found_zero, one_if};
 
 use gx_base::NoMemory;
 use indexmap::IndexMap;
 use std::alloc::Global;
+
+/// Below so many rows `tidy` does nothing: they take up little, and to free their table and take it again
+/// would cost more than they do.
+pub const LEAST_TIDIED: usize = 64;
 
 /// Numbers by key, which are 0 until they are written.
 #[derive(Drop)]
@@ -18,7 +22,7 @@ pub struct NumberRows {
 impl NumberRows {
     ghost use Rattle.std.specs.FinMap as map;
     ghost use Rattle.number_rows.specs.Rows.{number_in};
-    ghost use Rattle.number_rows.specs.NumberRows.{rows_of, dead_rows, row_count};
+    ghost use Rattle.number_rows.specs.NumberRows.{rows_of, dead_rows, IsLean};
 
     /// No rows: each number is 0.
     pub fn new(alloc: Global) -> NumberRows
@@ -69,14 +73,16 @@ impl NumberRows {
         self.write(key, number).unwrap();
     }
 
-    /// Drops the dead rows where they are more than half of all rows, and else does nothing, at no cost that
-    /// grows with the rows.
+    /// Drops the dead rows where they are more than half of all rows, and these are `LEAST_TIDIED` at least.
+    /// Else does nothing, at no cost that grows with the rows.
     pub fn tidy(&mut self)
         ensures numbers { (key : ℤ) → number_in (rows_of self.new) key ≡ number_in (rows_of self.old) key }
-        ensures lean { 2 * dead_rows self.new ≤ row_count self.new }
-        ensures idle { 2 * dead_rows self.old ≤ row_count self.old → rows_of self.new ≡ rows_of self.old }
+        ensures lean { IsLean self.new }
+        ensures dropped { ¬ (IsLean self.old) → dead_rows self.new ≡ 0 }
+        ensures idle { IsLean self.old → rows_of self.new ≡ rows_of self.old }
     {
-        if self.dead <= self.numbers.len() / 2 {
+        let rows = self.numbers.len();
+        if rows < LEAST_TIDIED || self.dead <= rows / 2 {
             return;
         }
         self.numbers.retain(

@@ -25,11 +25,12 @@ fn numbers_are_kept_by_key(rt: HostRuntime) -> Result<(), Fail> {
 #[test]
 fn dead_rows_are_dropped_once_they_are_more_than_half(rt: HostRuntime) -> Result<(), Fail> {
     let mut rows = NumberRows::new(rt.alloc());
-    for key in 0..5 {
+    for key in 0..64 {
         rows.write(key, 10 + key)?;
     }
-    rows.write(1, 0)?;
-    rows.write(3, 0)?;
+    for key in 0..32 {
+        rows.write(key, 0)?;
+    }
     rows.tidy();
     assert!(rt; rows.has_row(1) && rows.has_row(3));
     // A row that dies, lives again and dies once more counts once.
@@ -37,13 +38,15 @@ fn dead_rows_are_dropped_once_they_are_more_than_half(rt: HostRuntime) -> Result
     rows.write(3, 0)?;
     rows.tidy();
     assert!(rt; rows.has_row(1) && rows.has_row(3));
-    rows.write(4, 0)?;
+    rows.write(40, 0)?;
     rows.tidy();
-    assert!(rt; !rows.has_row(1) && !rows.has_row(3) && !rows.has_row(4));
-    assert_eq!(rt; (rows.value(0), rows.value(1), rows.value(2)), (10, 0, 12));
-    // The two rows that are left are alive.
-    rows.write(0, 0)?;
+    assert!(rt; !rows.has_row(1) && !rows.has_row(3) && !rows.has_row(40));
+    assert_eq!(rt; (rows.value(39), rows.value(40)), (49, 0));
+    // The rows that are left are few, so they stay even where all are dead.
+    for key in 32..64 {
+        rows.write(key, 0)?;
+    }
     rows.tidy();
-    assert!(rt; rows.has_row(0));
+    assert!(rt; rows.has_row(32) && rows.has_row(63));
     Ok(())
 }

@@ -9,12 +9,12 @@ use Rattle.number_rows.proofs.rows.NumberRows.tidy.Goals as goal
 pub returns-clause-numbers : goal.returns-clause-numbers
 returns-clause-numbers c = λ key.
     let e : c.shrink_to_fit.new.self.entries ≡ live_entries c.args.self.now.numbers.entries = c.shrink_to_fit.ensures.entries ∙ filter-RetainsPairs _ _ _ (λ k v b w g call. search rules) _ _ c.retain.ensures.filtered in
-    ap (λ es. number_in (map.from_entries es) key) e ∙ number_in-live c.args.self.now.numbers.entries c.len.ensures.unique key
+    ap (λ es. number_in (map.from_entries es) key) e ∙ number_in-live c.args.self.now.numbers.entries c.len-rows.ensures.unique key
 
 pub invariant_of-self : goal.invariant_of-self
 invariant_of-self c =
     let e : c.shrink_to_fit.new.self.entries ≡ live_entries c.args.self.now.numbers.entries = c.shrink_to_fit.ensures.entries ∙ filter-RetainsPairs _ _ _ (λ k v b w g call. search rules) _ _ c.retain.ensures.filtered in
     record {
-      fit = subst FitAll (sym e) (FitAll-live c.args.self.now.numbers.entries c.len.ensures.unique c.args.self.now.fit);
+      fit = subst FitAll (sym e) (FitAll-live c.args.self.now.numbers.entries c.len-rows.ensures.unique c.args.self.now.fit);
       counted = sym (ap dead_in e ∙ dead_in-live c.args.self.now.numbers.entries);
     }
