@@ -2,8 +2,8 @@
 //! condition, or a table of them, is below another.
 //!
 //! To start with: `specs/Grades.antt` has the classes, `specs/Simple.antt` the order and the bounds of simple
-//! conditions, `specs/Derivations.antt` the rules by which a row is below another, `specs/Tables.antt` what they
-//! say of whole tables.
+//! conditions, `specs/Same.antt` when two conditions are the same, `specs/Derivations.antt` the rules by which a
+//! row is below another, `specs/Tables.antt` what they say of whole tables. `laws` has what follows for callers.
 #![tactic(auto)]
 
 mod answers;

@@ -12,9 +12,9 @@ use gx_base::{Cond, Side};
 /// first row names stands in the second.
 ///
 /// No memory is taken, but for stack: a KiB for conditions as tables have them, and 4 MiB at most. Where c has
-/// n parts and d has m, it takes n * m steps as long as at most log2(n) + 1 rows of m answers fit there, so up
-/// to some 200,000 parts on either side. Beyond that the plain rules are tried one by one until the parts left
-/// are so small, which may meet one pair of parts along many ways.
+/// n parts and d has m, it takes n * m steps as long as log2(n + 1) rows of m answers fit there, as they do up
+/// to some 200,000 parts on both sides. Beyond that the plain rules are tried one by one down to parts whose
+/// rows fit, and may meet one pair of parts along many ways.
 pub fn row_below(c: &Cond, d: &Cond) -> bool
     ensures rules { IsTrue result ↔ IsRowBelow (condition_of c.now) (condition_of d.now) }
     ensures sound { IsTrue result → IsBelow (condition_of c.now) (condition_of d.now) }

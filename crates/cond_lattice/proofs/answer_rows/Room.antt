@@ -1,8 +1,8 @@
 -- How much room the rows of a condition want.
-use Rattle.std.specs.Prelude.{◌≡◌, if◌then◌else◌, ℕ, ◌+◌, ◌-◌, ◌*◌, ◌^◌, ◌<◌, ◌≤◌, ◌==◌, Bool, true, false, min, max, cond, nat_lt, refl}
-use Rattle.std.proofs.Common.{arith, sym, ap, ◌∙◌, subst}
+use Rattle.std.specs.Prelude.{◌≡◌, ℕ, ◌+◌, ◌-◌, ◌*◌, ◌^◌, ◌<◌, ◌≤◌, ◌==◌, Bool, true, false, min, max, cond, nat_lt, refl}
+use Rattle.std.proofs.Common.{arith, sym, subst}
 use Rattle.std.proofs.Math.Nat.{add-mul}
-use Rattle.std.proofs.lemmas.Bool.{eqb-true, ltb-true, ltb-false, eqb-false, lt-ltb}
+use Rattle.std.proofs.lemmas.Bool.{eqb-true, ltb-true, ltb-false, eqb-false}
 use Rattle.std.proofs.lemmas.Nat.{mul-le}
 use Rattle.gx_base.specs.Conditions.{Condition, And, Or}
 use Rattle.cond_lattice.specs.AnswerRows.{parts_of, is_joined, more_rows, rows_of, heavier, lighter, heavy_of, light_of}

@@ -2,7 +2,7 @@
 use Rattle.std.specs.Prelude.{◌≡◌, Bool, true, false, ◌&&◌, ◌||◌, nat_lt, cond, refl}
 use Rattle.std.proofs.Common.{sym, ap, ◌∙◌, inl, inr, subst}
 use Rattle.std.proofs.Math.Bool.{or_comm, and_comm}
-use Rattle.gx_base.specs.Conditions.{Condition, True, False, Eq, Ne, Lt, Le, And, Or, Not, is_false}
+use Rattle.gx_base.specs.Conditions.{Condition, True, False, And, Or, is_false}
 use Rattle.cond_lattice.specs.Same.{same_condition}
 use Rattle.cond_lattice.specs.Simple.{is_true}
 use Rattle.cond_lattice.specs.Derivations.{is_derived}

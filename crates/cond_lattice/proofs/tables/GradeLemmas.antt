@@ -8,7 +8,6 @@ use Rattle.gx_base.specs.declared.conditions.Term.{Term}
 use Rattle.gx_base.specs.declared.conditions.Term.TheVariants.{Const, Value, Beyond, State}
 use Rattle.gx_base.specs.Conditions.{Condition, True, False, Ne, And}
 use Rattle.gx_base.specs.Below.{names_state, term_names, IsBelow}
-use Rattle.cond_lattice.specs.declared.grades.Grade.{Grade}
 use Rattle.cond_lattice.specs.declared.grades.Grade.TheVariants.{Simple, Online, General}
 use Rattle.cond_lattice.specs.Grades.{are_across, is_conjunction, is_simple, grade_of}
 

@@ -1,5 +1,5 @@
 -- The greatest class of a table's rows.
-use Rattle.std.specs.Prelude.{◌≡◌, ◌≢◌, ◌⊎◌, ℕ, zero, suc, ◌+◌, ◌<◌, ◌≤◌, Bool, true, false, List, [], ◌∷◌, length, map, refl}
+use Rattle.std.specs.Prelude.{◌≡◌, ◌≢◌, ◌⊎◌, ℕ, zero, suc, ◌+◌, ◌<◌, ◌≤◌, true, false, length, map, refl}
 use Rattle.std.proofs.Common.{sym, ap, ◌∙◌, subst, inl, inr, arith}
 use Rattle.std.proofs.lemmas.Bool.{and_from, le-leb, lt-ltb, cases_lt}
 use Rattle.std.specs.List.{range_with_len}
@@ -13,7 +13,7 @@ use Rattle.gx_base.specs.Tables.{Rows}
 use Rattle.gx_base.proofs.CallerLemmas.{within_of}
 use Rattle.cond_lattice.specs.declared.grades.Grade.{Grade}
 use Rattle.cond_lattice.specs.declared.grades.Grade.TheVariants.{Simple, Online, General}
-use Rattle.cond_lattice.specs.Grades.{is_simple, grade_of, greater, greatest, first_grade, table_grade, rank, HasRowOf, IsGreatestClass, AreSimple}
+use Rattle.cond_lattice.specs.Grades.{grade_of, greater, greatest, first_grade, table_grade, rank, HasRowOf, IsGreatestClass, AreSimple}
 use Rattle.cond_lattice.proofs.tables.GradeLemmas.{grade_nameless, grade-simple, simple-grade, below-not-general}
 
 greater_first : (g h : Grade) → rank g ≤ rank (greater g h)

@@ -1,4 +1,4 @@
-use Rattle.std.proofs.Common.{◌≡◌, ◌-◌, ◌*◌, ◌<◌, ◌≤◌, true, length, arith, sym, ◌∙◌, subst}
+use Rattle.std.proofs.Common.{◌-◌, ◌*◌, ◌<◌, ◌≤◌, length, arith, sym, ◌∙◌, subst}
 use Rattle.gx_base.specs.Conditions.{condition_of}
 use Rattle.cond_lattice.specs.AnswerRows.{parts_of, row_for, rows_of, heavy_of, light_of, Begins}
 use Rattle.cond_lattice.proofs.answer_rows.Lists.{some_parts, length-row_for, begins_front, begins_room}

@@ -1,4 +1,4 @@
-use Rattle.std.proofs.Common.{◌≡◌, ◌-◌, ◌≤◌, arith}
+use Rattle.std.proofs.Common.{◌-◌, ◌≤◌, arith}
 use Rattle.gx_base.specs.Conditions.{condition_of}
 use Rattle.cond_lattice.specs.AnswerRows.{parts_of}
 use Rattle.cond_lattice.proofs.answer_rows.Lists.{some_parts, other_answer}
