@@ -10,7 +10,7 @@ use Rattle.gx_base.specs.declared.items.Item.{Item}
 use Rattle.gx_base.specs.States.{State}
 use Rattle.gx_base.specs.Plans.{Operator}
 use Rattle.gx_base.specs.Outcomes.{Outcome}
-use Rattle.gx_base.specs.Swapping.{same_int}
+use Rattle.gx_base.proofs.CallerLemmas.{same_int}
 use Rattle.gx_base.specs.Worklists.{item_cmp, same_item, is_before, has_item, is_least}
 use Rattle.gx_base.specs.SerialIterations.{body, Ended, may_commit, ready_after, with_first, serial, least_first}
 use Rattle.galois_run.specs.declared.commit_book.operator.Commit.{Commit}

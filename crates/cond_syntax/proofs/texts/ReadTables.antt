@@ -10,7 +10,7 @@ use Rattle.gx_base.specs.Conditions.{Condition}
 use Rattle.gx_base.specs.Kinds.{kind_number}
 use Rattle.gx_base.specs.Methods.{first_method, words_of, is_method, method_of}
 use Rattle.gx_base.specs.TableRows.{RowMap, pair_cmp, row_of, row_or_false}
-use Rattle.gx_base.specs.TableRowLaws.{pair_cmp_total, same_pair, same_pair-is}
+use Rattle.gx_base.proofs.CallerLemmas.{pair_cmp_total, same_pair, same_pair-is}
 use Rattle.text_lines.specs.Lines.{lines_of}
 use Rattle.cond_syntax.specs.Tokens.{Token, Word, Colon, tokens_of}
 use Rattle.cond_syntax.specs.TableTexts.{AreMethods, Spells, SoFar, Untyped, Typed, IsRead, skipped, type_line, row, AreRead, IsTableText}
