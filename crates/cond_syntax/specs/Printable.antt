@@ -1,21 +1,21 @@
 -- Which conditions and tables are read back from what is printed of them.
-use Rattle.std.specs.Prelude.{◌≡◌, ℕ, suc, ◌≤◌, ◌<◌, ◌^◌, max, nat_abs, List}
+use Rattle.std.specs.Prelude.{◌≡◌, ℕ, suc, ◌≤◌, ◌<◌, ◌^◌, true, max, nat_abs, List}
 use Rattle.gx_base.specs.declared.kinds.Kind.{Kind}
-use Rattle.gx_base.specs.declared.kinds.Kind.TheVariants.{Domains}
 use Rattle.gx_base.specs.declared.conditions.Term.{Term}
 use Rattle.gx_base.specs.declared.conditions.Term.TheVariants.{Const, Value, Beyond, State}
 use Rattle.gx_base.specs.Conditions.{Condition, True, False, Eq, Ne, Lt, Le, And, Or, Not}
 use Rattle.gx_base.specs.Kinds.{kind_number}
 use Rattle.gx_base.specs.Tables.{Rows, KeepsToKind}
 use Rattle.gx_base.specs.TableRows.{RowMap, row_of}
+use Rattle.cond_syntax.specs.Written.{has_state_function}
 use Rattle.cond_syntax.specs.TableTexts.{most_deep, IsTableText}
 
--- a number of at most 18 digits, a value's place up to 7, and a state function for domain books alone
+-- a number of at most 18 digits, a value's place up to 7, and a state function for a kind that has one
 abbrev pub IsPrintableTerm : Kind → Term → Type 0
 IsPrintableTerm kind (Const number) = nat_abs number < 10 ^ 18
 IsPrintableTerm kind (Value side place) = place ≤ 7
 IsPrintableTerm kind (Beyond x y z) = Unit {0}
-IsPrintableTerm kind (State side) = kind ≡ Domains
+IsPrintableTerm kind (State side) = has_state_function (kind_number kind) ≡ true
 
 -- each term of the condition is printable
 abbrev pub ArePrintable : Kind → Condition → Type 0

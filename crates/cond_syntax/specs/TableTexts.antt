@@ -1,10 +1,11 @@
 -- The texts of tables, and their first faults.
-use Rattle.std.specs.Prelude.{◌≡◌, ◌⊎◌, ℕ, ◌+◌, ◌-◌, ◌<◌, ◌≤◌, Bool, true, false, ◌==◌, bytes_eq, if◌then◌else◌, List, [], ◌∷◌, length, take, drop, codes, Option, Some, None, Contains}
+use Rattle.std.specs.Prelude.{◌≡◌, ◌⊎◌, ℕ, ◌+◌, ◌-◌, ◌<◌, ◌≤◌, Bool, true, false, ◌==◌, bytes_eq, if◌then◌else◌, List, [], ◌∷◌, length, take, drop, find, Option, Some, None, Contains}
 use Rattle.std.specs.FinMap as map
 use Rattle.gx_base.specs.declared.kinds.Kind.{Kind}
 use Rattle.gx_base.specs.declared.kinds.Kind.TheVariants.{Set, Cells, Flow, Points, Domains}
 use Rattle.gx_base.specs.Conditions.{Condition}
 use Rattle.gx_base.specs.Kinds.{kind_number}
+use Rattle.gx_base.specs.KnownKinds.{said_of}
 use Rattle.gx_base.specs.Methods.{method_of}
 use Rattle.gx_base.specs.TableRows.{RowMap}
 use Rattle.text_lines.specs.Lines.{lines_of}
@@ -20,21 +21,15 @@ most_deep = 64
 
 -- the word of a kind
 abbrev pub kind_text : Kind → List ℕ
-kind_text Set = codes "set"
-kind_text Cells = codes "cells"
-kind_text Flow = codes "flow"
-kind_text Points = codes "points"
-kind_text Domains = codes "domains"
+kind_text kind = said_of (λ known. known.word) (kind_number kind)
+
+-- the kinds, by rising number
+abbrev pub all_kinds : List Kind
+all_kinds = Set ∷ Cells ∷ Flow ∷ Points ∷ Domains ∷ []
 
 -- the kind with this word
 abbrev pub kind_named : List ℕ → Option Kind
-kind_named word =
-    if bytes_eq word (codes "set") then Some Set
-    else if bytes_eq word (codes "cells") then Some Cells
-    else if bytes_eq word (codes "flow") then Some Flow
-    else if bytes_eq word (codes "points") then Some Points
-    else if bytes_eq word (codes "domains") then Some Domains
-    else None
+kind_named word = find (λ kind. bytes_eq word (kind_text kind)) all_kinds
 
 -- a line is skipped that has no sign but blanks, or whose first sign is `#` (35)
 abbrev pub is_skipped : List ℕ → Bool

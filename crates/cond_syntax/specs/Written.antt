@@ -1,5 +1,5 @@
 -- Conditions as they are written: their words may name anything.
-use Rattle.std.specs.Prelude.{ℕ, ℤ, suc, max, ◌==◌, bytes_eq, if◌then◌else◌, List, [], ◌∷◌, codes, Option, Some, None}
+use Rattle.std.specs.Prelude.{ℕ, ℤ, Bool, suc, max, ◌==◌, bytes_eq, if◌then◌else◌, List, [], ◌∷◌, codes, Option, Some, None}
 use Rattle.gx_base.specs.declared.conditions.Side.{Side}
 use Rattle.gx_base.specs.declared.conditions.Side.TheVariants.{First, Second}
 use Rattle.gx_base.specs.declared.conditions.Part.{Part}
@@ -8,6 +8,7 @@ use Rattle.gx_base.specs.declared.conditions.Term.{Term}
 use Rattle.gx_base.specs.declared.conditions.Term.TheVariants.{Const, Value, Beyond, State}
 use Rattle.gx_base.specs.Conditions as plain
 use Rattle.gx_base.specs.Conditions.{Condition}
+use Rattle.gx_base.specs.KnownKinds.{said_of}
 
 -- a term: a number, a word, or `beyond` of three words
 pub data WrittenTerm : Type 0 where
@@ -70,11 +71,19 @@ abbrev pub value_named : List ℕ → Option Term
 value_named (letter ∷ digit ∷ []) = value_at (side_named digit) (place_named letter)
 value_named _ = None
 
--- what a word names as a term: a value, or in conditions of domain books (4) alone a domain
+-- whether the kind of a number has a state function
+abbrev pub has_state_function : ℕ → Bool
+has_state_function kind = said_of (λ known. known.has_state_function) kind
+
+-- the state function of one of the calls, where the kind has one
+abbrev pub state_named : ℕ → Side → Option Term
+state_named kind side = if has_state_function kind then Some (State side) else None
+
+-- what a word names as a term: a value or a state function
 abbrev pub term_named : ℕ → List ℕ → Option Term
 term_named kind word =
-    if bytes_eq word (codes "dom1") then (if kind == 4 then Some (State First) else None)
-    else if bytes_eq word (codes "dom2") then (if kind == 4 then Some (State Second) else None)
+    if bytes_eq word (codes "dom1") then state_named kind First
+    else if bytes_eq word (codes "dom2") then state_named kind Second
     else value_named word
 
 -- what a word names in `beyond`

@@ -1,8 +1,7 @@
 //! What words name.
 
-ghost use Rattle.std.specs.Prelude.{◌≡◌, ◌==◌, Some, None, if◌then◌else◌, find, bytes_eq};
+ghost use Rattle.std.specs.Prelude.{◌≡◌, find, bytes_eq};
 ghost use Rattle.std.specs.List.{filter_map, range_with_len};
-ghost use Rattle.gx_base.specs.declared.conditions.Term.TheVariants.{State};
 ghost use Rattle.gx_base.specs.Kinds.{kind_number};
 ghost use Rattle.gx_base.specs.Methods as methods;
 ghost use Rattle.cond_syntax.specs.Written as written;
@@ -51,17 +50,17 @@ pub(crate) fn term_named(kind: Kind, word: &[u8]) -> Option<Term>
     ensures { result ≡ written.term_named (kind_number kind) word.now }
 {
     if word == b"dom1".as_slice() {
-        domain_named(kind, Side::First)
+        state_named(kind, Side::First)
     } else if word == b"dom2".as_slice() {
-        domain_named(kind, Side::Second)
+        state_named(kind, Side::Second)
     } else {
         value_named(word)
     }
 }
 
-/// The domain at a call's first argument, which only domain books have.
-fn domain_named(kind: Kind, side: Side) -> Option<Term>
-    ensures { result ≡ (if kind_number kind == 4 then Some (State side) else None) }
+/// The state function of one of the calls, where the kind has one.
+fn state_named(kind: Kind, side: Side) -> Option<Term>
+    ensures { result ≡ written.state_named (kind_number kind) side }
 {
     match kind {
         Kind::Domains => Some(Term::State(side)),

@@ -2,7 +2,6 @@
 use Rattle.std.specs.Prelude.{◌≡◌, ℕ, suc, max, ◌≤◌, Bool, true, false, cond, ◌==◌, List, [], ◌∷◌, Option, Some, None, IfSome}
 use Rattle.std.proofs.Common.{refl, ap, ap₂, subst, arith}
 use Rattle.gx_base.specs.declared.kinds.Kind.{Kind}
-use Rattle.gx_base.specs.declared.kinds.Kind.TheVariants.{Set, Cells, Flow, Points, Domains}
 use Rattle.gx_base.specs.declared.conditions.Part.{Part}
 use Rattle.gx_base.specs.declared.conditions.Side.{Side}
 use Rattle.gx_base.specs.declared.conditions.Side.TheVariants.{First, Second}
@@ -12,7 +11,7 @@ use Rattle.gx_base.specs.Conditions as plain
 use Rattle.gx_base.specs.Conditions.{Condition}
 use Rattle.gx_base.specs.Kinds.{kind_number}
 use Rattle.cond_syntax.specs.Tokens.{Token}
-use Rattle.cond_syntax.specs.Written.{WrittenTerm, Fixed, Named, Far, Comparison, IsEqual, IsOther, IsLess, IsAtMost, Written, True, False, Compare, And, Or, Not, depth_of, place_named, side_named, value_at, value_named, term_named, part_named, beyond_of, term_of, compared, joined, negated, condition_in}
+use Rattle.cond_syntax.specs.Written.{WrittenTerm, Fixed, Named, Far, Comparison, IsEqual, IsOther, IsLess, IsAtMost, Written, True, False, Compare, And, Or, Not, depth_of, has_state_function, state_named, place_named, side_named, value_at, value_named, term_named, part_named, beyond_of, term_of, compared, joined, negated, condition_in}
 use Rattle.cond_syntax.specs.TableTexts.{Spells}
 use Rattle.cond_syntax.proofs.grammar.SmallNumbers.{AreSmall, HasSmallNumber, HasSmallNumbers, condition-small}
 use Rattle.cond_syntax.specs.Printable.{IsPrintableTerm, ArePrintable, condition_depth, IsPrintable}
@@ -57,13 +56,13 @@ value-named kind (letter ∷ []) = tt
 value-named kind (letter ∷ digit ∷ []) = value-at kind (side_named digit) (place_named letter) (place-named letter).such
 value-named kind (letter ∷ digit ∷ more ∷ rest) = tt
 
--- state functions are named in conditions of domain books alone
-state-named : (kind : Kind) (side : Side) → Names (IsPrintableTerm kind) (cond (kind_number kind == 4) (Some (State side)) None)
-state-named Set side = record { such = tt }
-state-named Cells side = record { such = tt }
-state-named Flow side = record { such = tt }
-state-named Points side = record { such = tt }
-state-named Domains side = record { such = refl }
+-- state functions are named in conditions of kinds that have one
+state-printable : (kind : Kind) (side : Side) (has : Bool) → has_state_function (kind_number kind) ≡ has → IfSome (cond has (Some (State side)) None) (IsPrintableTerm kind)
+state-printable kind side true has = has
+state-printable kind side false has = tt
+
+state-named : (kind : Kind) (side : Side) → Names (IsPrintableTerm kind) (state_named (kind_number kind) side)
+state-named kind side = record { such = state-printable kind side (has_state_function (kind_number kind)) refl }
 
 term-named : (kind : Kind) (word : List ℕ) → Names (IsPrintableTerm kind) (term_named (kind_number kind) word)
 term-named kind word =

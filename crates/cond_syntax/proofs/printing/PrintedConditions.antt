@@ -13,7 +13,7 @@ use Rattle.gx_base.specs.Conditions.{Condition, True, False, Eq, Ne, Lt, Le, And
 use Rattle.gx_base.specs.Kinds.{kind_number}
 use Rattle.cond_syntax.specs.Tokens.{Token, Close, AndKey, OrKey, tokens_of}
 use Rattle.cond_syntax.specs.Written as written
-use Rattle.cond_syntax.specs.Written.{Written, WrittenTerm, Fixed, Named, Far, Comparison, IsEqual, IsOther, IsLess, IsAtMost, Compare, term_of, part_named, condition_in, compared, comparison_of, beyond_of, joined, negated}
+use Rattle.cond_syntax.specs.Written.{Written, WrittenTerm, has_state_function, Fixed, Named, Far, Comparison, IsEqual, IsOther, IsLess, IsAtMost, Compare, term_of, part_named, condition_in, compared, comparison_of, beyond_of, joined, negated}
 use Rattle.cond_syntax.specs.Grammar as grammar
 use Rattle.cond_syntax.specs.Grammar.{IsTerm, IsOperator, IsCondition, IsConjunction, IsUnit}
 use Rattle.cond_syntax.specs.Fronts.{is_cut_from, most_open}
@@ -64,15 +64,15 @@ part_is ArgSecond = refl
 part_is RepFirst = refl
 part_is RepSecond = refl
 
-state_is : (side : Side) → term_of 4 (written_term (State side)) ≡ Some (State side)
-state_is First = refl
-state_is Second = refl
+state_is : (kind : ℕ) (side : Side) → has_state_function kind ≡ true → term_of kind (written_term (State side)) ≡ Some (State side)
+state_is kind First h = rw h refl
+state_is kind Second h = rw h refl
 
 term_is : (kind : Kind) (t : Term) → IsPrintableTerm kind t → term_of (kind_number kind) (written_term t) ≡ Some t
 term_is kind (Const number) h = refl
 term_is kind (Value side place) h = value_is (kind_number kind) side place h
 term_is kind (Beyond x y z) h = rw (part_is x, part_is y, part_is z) refl
-term_is kind (State side) h = ap (λ k. term_of (kind_number k) (written_term (State side))) h ∙ state_is side
+term_is kind (State side) h = state_is (kind_number kind) side h
 
 compared_is : (kind : Kind) (op : Comparison) (x y : Term) → IsPrintableTerm kind x → IsPrintableTerm kind y
     → condition_in (kind_number kind) (Compare op (written_term x) (written_term y)) ≡ Some (comparison_of op x y)

@@ -1,5 +1,5 @@
 -- Each line of a text is read or has a fault.
-use Rattle.std.specs.Prelude.{◌≡◌, ◌⊎◌, ℕ, zero, suc, ◌≤◌, ◌<◌, true, false, ◌==◌, if◌then◌else◌, List, [], ◌∷◌, Option, Some, None, Contains, refl}
+use Rattle.std.specs.Prelude.{◌≡◌, ◌⊎◌, ℕ, zero, suc, ◌≤◌, ◌<◌, true, false, List, [], ◌∷◌, slice_get, Option, Some, None, Contains, refl}
 use Rattle.std.proofs.Common.{sym, ◌∙◌, ap, subst, inl, inr, arith}
 use Rattle.std.proofs.lemmas.Bool.{cases_Bool, cases_eq, cases_lt}
 use Rattle.std.specs.FinMap as map
@@ -17,7 +17,7 @@ use Rattle.cond_syntax.proofs.grammar.FrontLemmas.{front_whole}
 use Rattle.cond_syntax.proofs.grammar.KnownWords.{known_words}
 use Rattle.cond_syntax.proofs.machine.MachineLemmas.{whole_is_spelled, whole_is_not_cut, cut_is_cut, whole_has_form, cut_has_form, wrong_has_no_form}
 use Rattle.cond_syntax.specs.TableTexts as table_text
-use Rattle.cond_syntax.specs.TableTexts.{most_deep, kind_named, is_skipped, IsTypeLine, IsRowLine, IsWanted, AreMethods, Spells, IsTooDeep, SoFar, Untyped, Typed, IsRead, Fault, HasFault}
+use Rattle.cond_syntax.specs.TableTexts.{most_deep, all_kinds, kind_named, is_skipped, IsTypeLine, IsRowLine, IsWanted, AreMethods, Spells, IsTooDeep, SoFar, Untyped, Typed, IsRead, Fault, HasFault}
 use Rattle.cond_syntax.proofs.texts.LineReading.{row_line_condition, type_is_no_row}
 
 -- ---- what a value is, it is with an equation
@@ -29,13 +29,7 @@ some_or_none (Some x) = inl (x, refl)
 -- ---- whether a name is that of a wanted kind
 
 abbrev kind_at : ℕ → Option Kind
-kind_at number =
-    if number == 0 then Some Set
-    else if number == 1 then Some Cells
-    else if number == 2 then Some Flow
-    else if number == 3 then Some Points
-    else if number == 4 then Some Domains
-    else None
+kind_at number = slice_get all_kinds number
 
 kind_at_number : (kind : Kind) → kind_at (kind_number kind) ≡ Some kind
 kind_at_number Set = refl
