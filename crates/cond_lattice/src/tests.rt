@@ -1,5 +1,10 @@
 //! What no clause says: that calls succeed and end soon, and values worked by hand.
 
+ghost use Rattle.std.specs.Prelude.{◌≡◌, IfOk};
+ghost use Rattle.gx_base.specs.declared.conditions.Side.TheVariants.{First, Second};
+ghost use Rattle.gx_base.specs.declared.conditions.Term.TheVariants.{Value as ValueTerm};
+ghost use Rattle.gx_base.specs.Conditions.{condition_of, Ne as NeCondition, And as AndCondition};
+
 use crate::decisions::{is_derived, is_derived_apart};
 use crate::laws::{below_keeps_out_general_rows, simple_holds_by_its_inequalities};
 use crate::{Grade, below, class, join, meet, row_below, simple_below, strengthen, table_class};
@@ -16,14 +21,18 @@ const P1: Term = Term::Value(Side::First, 4);
 const P2: Term = Term::Value(Side::Second, 4);
 
 /// The values with this number differ.
-fn differ(place: u32) -> Cond {
+fn differ(place: u32) -> Cond
+    ensures { condition_of result ≡ NeCondition (ValueTerm First place) (ValueTerm Second place) }
+{
     Cond::Ne(
         Term::Value(Side::First, place),
         Term::Value(Side::Second, place),
     )
 }
 
-fn and(alloc: Global, x: Cond, y: Cond) -> Result<Cond, NoMemory> {
+fn and(alloc: Global, x: Cond, y: Cond) -> Result<Cond, NoMemory>
+    ensures { IfOk result (λ whole. condition_of whole ≡ AndCondition (condition_of x) (condition_of y)) }
+{
     let left = Box::new(alloc, x)?;
     let right = Box::new(alloc, y)?;
     Ok(Cond::And(left, right))
@@ -63,13 +72,16 @@ fn is_of(cond: &Cond, grade: Grade) -> bool {
 #[test]
 fn bounds_of_simple_conditions(rt: HostRuntime) -> Result<(), Fail> {
     let alloc = rt.alloc();
-    let turned = Cond::Ne(A2, A1);
-    let both = meet(alloc, &differ(0), &and(alloc, turned, differ(1))?)?;
+    let a = differ(0);
+    let b = differ(1);
+    let turned = and(alloc, Cond::Ne(A2, A1), differ(1))?;
+    let both = meet(alloc, &a, &turned)?;
     assert_eq!(rt; atoms(&both), 2);
-    assert!(rt; are_alike(&both, &and(alloc, differ(0), differ(1))?));
-    assert!(rt; are_alike(&join(alloc, &both, &differ(0))?, &differ(0)));
-    assert!(rt; are_alike(&join(alloc, &differ(0), &differ(1))?, &Cond::True));
-    assert!(rt; simple_below(&both, &differ(0)) && !simple_below(&differ(0), &both));
+    assert!(rt; are_alike(&both, &turned));
+    assert!(rt; are_alike(&join(alloc, &both, &a)?, &a));
+    assert!(rt; are_alike(&join(alloc, &a, &b)?, &Cond::True));
+    assert!(rt; simple_below(&both, &a));
+    assert!(rt; !simple_below(&a, &both));
     Ok(())
 }
 
