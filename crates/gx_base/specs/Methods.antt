@@ -12,6 +12,10 @@ first_method kind = said_of (λ known. known.first) kind
 abbrev pub words_of : ℕ → List (List ℕ)
 words_of kind = said_of (λ known. known.words) kind
 
+-- how many methods a kind may have
+abbrev pub most_methods : ℕ
+most_methods = 8
+
 -- the methods of a kind, by rising number
 abbrev pub methods_of : ℕ → List ℕ
 methods_of kind = range_with_len (first_method kind) (length (words_of kind))

@@ -1,5 +1,5 @@
 -- What rooms that threads share tell of their values, as plain data.
-use Rattle.std.specs.Prelude.{◌≡◌, ◌⊎◌, ℕ, Bool, List, ◌++◌, refl}
+use Rattle.std.specs.Prelude.{◌≡◌, ◌⊎◌, ℕ, Bool, true, false, List, ◌++◌, refl}
 use Rattle.std.proofs.Common.{inl, inr}
 use Rattle.std.specs.Coded.{Coded, code_by, coded×, coded⊎, coded_ℕ, coded_bool, coded_list}
 use Rattle.gx_base.specs.declared.items.Item.{Item}
@@ -16,6 +16,11 @@ pub data Origin : Type 0 where
   OfGate : (start : State) (kind : ℕ) (table : RowMap) → Origin
   OfBook : (ready : List Item) (ordered : Bool) → Origin
 
+-- whether that was a book
+abbrev pub is_book : Origin → Bool
+is_book (OfGate start kind table) = false
+is_book (OfBook ready ordered) = true
+
 -- the state that a gate began with. A book has none, and counts as empty
 abbrev pub first_state : Origin → State
 first_state (OfGate start kind table) = start
@@ -24,7 +29,6 @@ first_state (OfBook ready ordered) = no_state
 -- a value of a room. The live entries and the mark are a gate's; its past are the done entries with their numbers, and a
 -- book's past are its commits
 pub record RoomView : Type 0 where
-  pub is_book : Bool
   pub live : List Entry
   pub done : List Entry
   pub commits : List Commit
@@ -61,8 +65,8 @@ origin_code = code_by OriginFields (coded⊎ (coded× state_code (coded× coded_
 
 abbrev pub room_view_code : Coded RoomView
 room_view_code =
-    code_by (Bool × (List Entry × (List Entry × (List Commit × (ℕ × Origin)))))
-    (coded× coded_bool (coded× (coded_list entry_code) (coded× (coded_list entry_code) (coded× (coded_list commit_code) (coded× coded_ℕ origin_code)))))
-    (λ v. (v.is_book, (v.live, (v.done, (v.commits, (v.mark, v.origin))))))
-    (λ p. record { is_book = p.0; live = p.1.0; done = p.1.1.0; commits = p.1.1.1.0; mark = p.1.1.1.1.0; origin = p.1.1.1.1.1 })
+    code_by (List Entry × (List Entry × (List Commit × (ℕ × Origin))))
+    (coded× (coded_list entry_code) (coded× (coded_list entry_code) (coded× (coded_list commit_code) (coded× coded_ℕ origin_code))))
+    (λ v. (v.live, (v.done, (v.commits, (v.mark, v.origin)))))
+    (λ p. record { live = p.0; done = p.1.0; commits = p.1.1.0; mark = p.1.1.1.0; origin = p.1.1.1.1 })
     (λ _. refl)

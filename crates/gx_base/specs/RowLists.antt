@@ -4,6 +4,7 @@ use Rattle.std.specs.FinMap as finite
 use Rattle.std.specs.declared.alloc.Global.{Global}
 use Rattle.gx_base.specs.declared.tables.Row.{Row}
 use Rattle.gx_base.specs.Conditions.{Condition, condition_of}
+use Rattle.gx_base.specs.Methods.{most_methods}
 use Rattle.gx_base.specs.TableRows.{pair_cmp, RowMap, row_of}
 
 -- a pair of methods with its condition
@@ -35,10 +36,9 @@ entries_in (bucket ∷ buckets) = bucket ++ entries_in buckets
 abbrev pub row_map_of : List (List Entry) → RowMap
 row_map_of buckets = finite.from_entries (entries_in buckets)
 
--- the number of the bucket of two methods. The methods of one kind are at most eight and follow one
--- another, so no two pairs of them share a bucket
+-- the number of the bucket of two methods. No two pairs of methods of one kind share a bucket
 abbrev pub bucket_number : (ℕ × ℕ) → ℕ
-bucket_number pair = (pair.0 % 8) * 8 + pair.1 % 8
+bucket_number pair = (pair.0 % most_methods) * most_methods + pair.1 % most_methods
 
 -- the bucket with this number is the one of each entry
 abbrev pub AllBelong : ℕ → List Entry → Type 0

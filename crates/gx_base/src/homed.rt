@@ -1,5 +1,5 @@
 ghost use Rattle.std.specs.Prelude.{◌≡◌, ℕ, false};
-ghost use Rattle.gx_base.specs.RoomViews.{RoomView, ReplaysAlone};
+ghost use Rattle.gx_base.specs.RoomViews.{RoomView, is_book, ReplaysAlone};
 
 /// A value that a room holds. Rooms hand it out and take it back, and call nothing of it.
 pub trait Homed: Drop {
@@ -10,5 +10,5 @@ pub trait Homed: Drop {
     ghost lawful: { Self → Type 0 };
 
     /// Where the value is no book, each worker's live entries replay after its past with no other live ones.
-    ghost alone: { (value : Self) → lawful value → (told value).is_book ≡ false → (worker : ℕ) → ReplaysAlone (told value) worker };
+    ghost alone: { (value : Self) → lawful value → is_book (told value).origin ≡ false → (worker : ℕ) → ReplaysAlone (told value) worker };
 }

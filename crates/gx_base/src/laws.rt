@@ -1,7 +1,7 @@
 //! Laws of calls and tables, over their definitions alone. A caller of one of these empty functions
 //! may use what it ensures.
 
-ghost use Rattle.std.specs.Prelude.{◌≡◌, ℕ, false, Option, Some, None, List, [], ◌∷◌, ◌++◌};
+ghost use Rattle.std.specs.Prelude.{◌≡◌, ◌≤◌, ◌%◌, ℕ, true, false, length, Option, Some, None, List, [], ◌∷◌, ◌++◌};
 ghost use Rattle.gx_base.specs.declared.acts.Act.TheVariants as acts;
 ghost use Rattle.gx_base.specs.declared.acts.Step.{Step};
 ghost use Rattle.gx_base.specs.declared.calls.Call.{Call};
@@ -12,17 +12,17 @@ ghost use Rattle.gx_base.specs.States.{State};
 ghost use Rattle.gx_base.specs.Steps.{next_state, reply_to, inverse, IsState, IsCall};
 ghost use Rattle.gx_base.specs.Tables.{Rows, IsValid};
 ghost use Rattle.gx_base.specs.Below.{AreBelow};
-ghost use Rattle.gx_base.specs.Methods.{is_method};
+ghost use Rattle.gx_base.specs.declared.kinds.Kind.{Kind};
+ghost use Rattle.gx_base.specs.Kinds.{kind_number};
+ghost use Rattle.gx_base.specs.Methods.{most_methods, words_of, is_method};
 ghost use Rattle.gx_base.specs.ForeignMethods.{ChangesNothing};
 ghost use Rattle.gx_base.specs.Plans.{Plan, Done, Operator, Follows};
 ghost use Rattle.gx_base.specs.Outcomes.{Commit, outcomes_of, journal};
-ghost use Rattle.gx_base.specs.RoomViews.{RoomView, room_view_code, ReplaysAlone};
+ghost use Rattle.gx_base.specs.RoomViews.{RoomView, room_view_code};
 ghost use Rattle.gx_base.specs.Replays.{after, Legal, start_of, AreCalls, part, Replays};
 ghost use Rattle.gx_base.specs.BodyRuns.{then_step, RunsTo};
 ghost use Rattle.gx_base.specs.SerialIterations.{body, Ended, serial, then_serial};
 ghost use Rattle.gx_base.specs.SerialRuns.{IsSerialRun, IsLeastFirst, IsSerialRunInTwo, AreInTurn, AreRunsOf};
-
-use crate::homed::Homed;
 
 /// The inverse of a call gives the state before it.
 pub fn inverse_undoes()
@@ -121,9 +121,9 @@ pub fn codes_tell_room_views_apart()
     ensures { (view other : RoomView) → room_view_code.code view ≡ room_view_code.code other → view ≡ other }
 {}
 
-/// In a lawful value of a room that is no book, the live entries of each worker replay with no other live ones.
-pub fn live_entries_replay_alone<V: Homed>(value: &V)
-    requires lawful { V.lawful value.now }
-    requires gate { (V.told value.now).is_book ≡ false }
-    ensures { (worker : ℕ) → ReplaysAlone (V.told value.now) worker }
+/// A kind has at most eight methods, and no two of them leave the same rest by eight.
+pub fn kinds_have_few_methods()
+    ensures few { (kind : Kind) → length (words_of (kind_number kind)) ≤ most_methods }
+    ensures apart { (kind : Kind) (method other : ℕ) → is_method (kind_number kind) method ≡ true → is_method (kind_number kind) other ≡ true
+        → method % most_methods ≡ other % most_methods → method ≡ other }
 {}

@@ -1,14 +1,14 @@
 -- The methods of a kind, one after another.
-use Rattle.std.specs.Prelude.{◌≡◌, ℕ, zero, suc, ◌+◌, ◌<◌, ◌≤◌, Bool, true, false, cond, nat_le, nat_lt, [], ◌∷◌, length, drop, Some, None, refl}
+use Rattle.std.specs.Prelude.{◌≡◌, ℕ, zero, suc, ◌+◌, ◌%◌, ◌<◌, ◌≤◌, Bool, true, false, cond, nat_le, nat_lt, [], ◌∷◌, length, drop, Some, None, refl}
 use Rattle.std.specs.List.{range_with_len}
 use Rattle.std.proofs.Common.{sym, ap, ◌∙◌, inl, inr, arith, subst}
 use Rattle.std.proofs.lemmas.Bool.{and_parts, leb-true, ltb-true, ltb-false, cases_lt}
 use Rattle.gx_base.specs.declared.kinds.Kind.{Kind}
 use Rattle.gx_base.specs.declared.kinds.Kind.TheVariants.{Set, Cells, Flow, Points, Domains}
 use Rattle.gx_base.specs.Kinds.{kind_number}
-use Rattle.gx_base.specs.Methods.{first_method, words_of, methods_of, is_method, method_at}
+use Rattle.gx_base.specs.Methods.{most_methods, first_method, words_of, methods_of, is_method, method_at}
 
-pub few_methods : (kind : Kind) → length (words_of (kind_number kind)) ≤ 6
+pub few_methods : (kind : Kind) → length (words_of (kind_number kind)) ≤ most_methods
 few_methods Set = omega arith
 few_methods Cells = omega arith
 few_methods Flow = omega arith
@@ -46,6 +46,19 @@ pub within_of : (kind method : ℕ) → is_method kind method ≡ true → IsWit
 within_of kind method e =
     let p = and_parts (nat_le (first_method kind) method) (nat_lt method (first_method kind + length (words_of kind))) e in
     record { from = leb-true _ _ p.0; upto = ltb-true _ _ p.1 }
+
+same_rest : (first m n : ℕ) → first ≤ m → m < first + 8 → first ≤ n → n < first + 8 → m % 8 ≡ n % 8 → m ≡ n
+same_rest first m n a b c d e = omega arith
+
+-- no two methods of a kind leave the same rest
+pub methods_apart : (kind : Kind) (m n : ℕ) → is_method (kind_number kind) m ≡ true → is_method (kind_number kind) n ≡ true → m % most_methods ≡ n % most_methods → m ≡ n
+methods_apart kind m n e f rest =
+    let p : IsWithin (kind_number kind) m = within_of (kind_number kind) m e in
+    let q : IsWithin (kind_number kind) n = within_of (kind_number kind) n f in
+    let few : length (words_of (kind_number kind)) ≤ 8 = few_methods kind in
+    let above : m < first_method (kind_number kind) + length (words_of (kind_number kind)) = p.upto in
+    let below : n < first_method (kind_number kind) + length (words_of (kind_number kind)) = q.upto in
+    same_rest (first_method (kind_number kind)) m n p.from (omega arith) q.from (omega arith) rest
 
 -- what holds of the methods before a place and of the one there holds of those before the next
 pub one_more : (kind place method : ℕ) (P : ℕ → Type 0) → method_at kind place ≡ Some method
@@ -92,10 +105,10 @@ methods_from kind place method e =
 pub methods_end : (kind place : ℕ) → method_at kind place ≡ None → drop place (methods_of kind) ≡ []
 methods_end kind place e = drop_range_end (first_method kind) (length (words_of kind)) place (no_more kind place e)
 
--- a place with a method is below 6
-pub place_below : (kind : Kind) (place method : ℕ) → method_at (kind_number kind) place ≡ Some method → place < 6
+-- a place with a method is below the most that a kind has
+pub place_below : (kind : Kind) (place method : ℕ) → method_at (kind_number kind) place ≡ Some method → place < most_methods
 place_below kind place method e =
-    let few : length (words_of (kind_number kind)) ≤ 6 = few_methods kind in
+    let few : length (words_of (kind_number kind)) ≤ most_methods = few_methods kind in
     let at : IsAt (kind_number kind) place method = method_here (kind_number kind) place method e in
     let within : place < length (words_of (kind_number kind)) = at.within in
     omega arith

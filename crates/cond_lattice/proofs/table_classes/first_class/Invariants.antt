@@ -12,4 +12,4 @@ invariant-loop-second l =
     ≡ first_grade (kind_number l.kind) (row_of l.table) l.first
 
 abbrev pub decreases-loop-second : goal.decreases-loop-second
-decreases-loop-second l = 6 - l.second_place
+decreases-loop-second l = 8 - l.second_place

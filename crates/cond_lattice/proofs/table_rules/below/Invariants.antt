@@ -12,4 +12,4 @@ invariant-loop-first l =
     → (n : ℕ) → is_method (kind_number l.kind) n ≡ true → IsRowBelow (row_of l.c m n) (row_of l.d m n)
 
 abbrev pub decreases-loop-first : goal.decreases-loop-first
-decreases-loop-first l = 6 - l.place
+decreases-loop-first l = 8 - l.place

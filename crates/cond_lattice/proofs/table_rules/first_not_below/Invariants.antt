@@ -11,4 +11,4 @@ invariant-loop-second l =
     (n : ℕ) → is_method (kind_number l.kind) n ≡ true → n < first_method (kind_number l.kind) + l.place → IsRowBelow (row_of l.c l.first n) (row_of l.d l.first n)
 
 abbrev pub decreases-loop-second : goal.decreases-loop-second
-decreases-loop-second l = 6 - l.place
+decreases-loop-second l = 8 - l.place

@@ -13,4 +13,4 @@ invariant-loop-first l =
     ≡ string_bytes l.fn.text ++ flat_map (first_lines l.kind (row_of l.table)) (methods_of (kind_number l.kind))
 
 abbrev pub decreases-loop-first : goal.decreases-loop-first
-decreases-loop-first l = 6 - l.place
+decreases-loop-first l = 8 - l.place

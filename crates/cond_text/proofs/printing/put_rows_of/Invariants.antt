@@ -13,4 +13,4 @@ invariant-loop-second l =
     ≡ string_bytes l.fn.text ++ first_lines l.kind (row_of l.table) l.first
 
 abbrev pub decreases-loop-second : goal.decreases-loop-second
-decreases-loop-second l = 6 - l.place
+decreases-loop-second l = 8 - l.place

@@ -13,4 +13,4 @@ invariant-loop-first l =
     ≡ classify_text l.kind (row_of l.table)
 
 abbrev pub decreases-loop-first : goal.decreases-loop-first
-decreases-loop-first l = 6 - l.place
+decreases-loop-first l = 8 - l.place
