@@ -30,10 +30,6 @@ pub close_read-some : (or_left : Option Written) (frames : List Frame) (last : W
 close_read-some (Some left) frames last = refl
 close_read-some None frames last = refl
 
-pub close_read-none : (or_left : Option Written) (last : Written) → close_read last (or_frames or_left (outside None)) ≡ None
-close_read-none (Some left) last = refl
-close_read-none None last = refl
-
 -- ---- what is kept of left sides
 
 some_same : {A : Type 0} {x y : A} → Some x ≡ Some y → x ≡ y

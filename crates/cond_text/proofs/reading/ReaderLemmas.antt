@@ -21,7 +21,7 @@ use Rattle.cond_text.specs.declared.readers.Place.TheVariants.{Due, Done}
 use Rattle.cond_text.specs.declared.readers.Reader.{Reader}
 use Rattle.cond_text.specs.declared.levels.Level.{Level}
 use Rattle.cond_text.specs.declared.tokens.Token.{Token}
-use Rattle.cond_text.specs.declared.tokens.Token.TheVariants.{OrKey, AndKey, NotKey, TrueKey, FalseKey, Open, Close}
+use Rattle.cond_text.specs.declared.tokens.Token.TheVariants.{NotKey, TrueKey, FalseKey, Open}
 
 pub operand_read-other : (frames : List Frame) (t : Token) → (t ≡ NotKey → ⊥) → (t ≡ Open → ⊥) → operand_read frames (token_seen t) ≡ unit_begun frames (token_seen t)
 operand_read-other frames NotKey isnt isnt' = absurd (isnt refl)
@@ -32,12 +32,6 @@ pub unit_begun-other : (frames : List Frame) (t : Token) → (t ≡ TrueKey → 
 unit_begun-other frames TrueKey isnt isnt' = absurd (isnt refl)
 unit_begun-other frames FalseKey isnt isnt' = absurd (isnt' refl)
 unit_begun-other frames _ isnt isnt' = refl
-
-pub conjunction_read-other : (last : Written) (frames : List Frame) (t : Token) → (t ≡ AndKey → ⊥) → (t ≡ OrKey → ⊥) → (t ≡ Close → ⊥) → conjunction_read last frames (token_seen t) ≡ None
-conjunction_read-other last frames AndKey and or close = absurd (and refl)
-conjunction_read-other last frames OrKey and or close = absurd (or refl)
-conjunction_read-other last frames Close and or close = absurd (close refl)
-conjunction_read-other last frames _ and or close = refl
 
 -- ---- the levels of open parentheses
 

@@ -48,9 +48,6 @@ AreRead-push wanted before (other ∷ lines) reached line next all read = (all.0
 
 -- ---- steps
 
-pub at_start : (wanted : List Kind) (bytes : List ℕ) → HaveRead wanted bytes 0 bytes Untyped
-at_start wanted bytes = record { left = refl; earlier = refl }
-
 pub one_more : (wanted : List Kind) (bytes : List ℕ) (count : ℕ) (rest line after : List ℕ) (reached next : SoFar)
     → HaveRead wanted bytes count rest reached → lines_of rest ≡ line ∷ lines_of after → IsRead wanted reached line next → HaveRead wanted bytes (count + 1) after next
 one_more wanted bytes count rest line after reached next have first read =
