@@ -3,10 +3,12 @@
 #![tactic(auto)]
 
 mod operator;
+mod outcome;
 mod serial;
 mod worklist;
 
-pub use gx_base::{Act, Step};
-pub use operator::{Commit, Operator};
-pub use serial::{MOST_COMMITS, SerialStop, order_is_determined, run_serially};
+pub use gx_base::{Act, Commit, Step};
+pub use operator::Operator;
+pub use outcome::Outcome;
+pub use serial::{MOST_COMMITS, SerialStop, commit_item, order_is_determined, run_serially};
 pub use worklist::Worklist;

@@ -45,12 +45,3 @@ pub trait Operator {
     fn left(&self, st: &Self::St) -> u64
         ensures { result ≡ to_go self.now st.now };
 }
-
-/// A committed iteration: its worker, its number at that worker, its item and the number of its steps.
-#[derive(Clone, Copy, Debug, PartialEq, Eq, Drop)]
-pub struct Commit {
-    pub worker: u32,
-    pub iter: u64,
-    pub item: Item,
-    pub steps: u64,
-}

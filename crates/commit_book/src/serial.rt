@@ -1,12 +1,14 @@
-ghost use Rattle.std.specs.Prelude.{◌≡◌, [], length, map, IfOk};
+ghost use Rattle.std.specs.Prelude.{◌≡◌, [], length, map, IfOk, OnOk};
 ghost use Rattle.gx_base.specs.Replays.{in_rooms};
+ghost use Rattle.gx_base.specs.SerialIterations.{body, ready_after};
 ghost use Rattle.gx_base.specs.Worklists.{with_items};
-ghost use Rattle.commit_book.specs.SerialRuns.{operator_of, HasRun, IsWholeRun, IsUnfinished, IsDetermined};
+ghost use Rattle.commit_book.specs.Commits.{outcome_of};
+ghost use Rattle.commit_book.specs.SerialRuns.{operator_of, IsWholeRun, IsUnfinished, IsDetermined};
 ghost use Rattle.commit_book.specs.declared.serial.SerialStop.TheVariants as stops;
 ghost use Rattle.std.specs.declared.result.Result.TheVariants.{Err};
 
-use crate::{Act, Commit, Operator, Worklist};
-use gx_base::{Item, NoMemory, Reply, SeqType};
+use crate::{Operator, Outcome, Worklist};
+use gx_base::{Act, Commit, Item, NoMemory, Reply, SeqType, Step};
 use std::alloc::{AllocFailed, Global};
 
 /// How many items may commit.
@@ -36,37 +38,53 @@ impl<T: Drop> From<AllocFailed<T>> for SerialStop {
     }
 }
 
-/// Runs the body of an item to its end, and leaves its pushes in `pushes`. Answers the number of its steps.
+/// Runs the body of an item to its end. `outcome` is made what it did.
 fn run_body<O: Operator, T: SeqType>(
     op: &O,
     item: Item,
     rooms: &mut [T],
-    pushes: &mut Vec<Item>,
-) -> Result<u64, NoMemory>
+    outcome: &mut Outcome,
+) -> Result<(), NoMemory>
     requires { O.room_count op.now ≡ length rooms.old }
-    ensures { IfOk result (λ steps. HasRun (O.plan op.now item) (in_rooms (map T.state rooms.old)) steps pushes.new.items (in_rooms (map T.state rooms.new))) }
+    ensures { OnOk result (body (O.plan op.now item) (in_rooms (map T.state rooms.old)) ≡ record { outcome = outcome_of outcome.new; states = in_rooms (map T.state rooms.new) }) }
 {
-    pushes.clear();
+    outcome.clear();
     let mut state = op.begin(item);
-    let most = op.left(&state);
-    let mut steps: u64 = 0;
     let mut last: Option<Reply> = None;
     loop {
         match op.next(&mut state, last) {
             Act::Call { room, call } => {
                 let reply = rooms[room as usize].apply(call)?;
-                // Each act leaves fewer to do, so that the count fits.
-                prove!(steps < most);
-                steps += 1;
+                outcome.steps.push(Step { room, call, reply })?;
                 last = Some(reply);
             }
             Act::Push(item) => {
-                pushes.push(item)?;
+                outcome.pushes.push(item)?;
                 last = None;
             }
-            Act::Done => return Ok(steps),
+            Act::Done => return Ok(()),
         }
     }
+}
+
+/// Commits one item, ready or not: runs its body on plain objects, takes it out of the worklist, and makes its pushes
+/// ready. `outcome` is made what the body did. Where memory runs out, the objects stand within the body, or only some of
+/// the pushes may be ready.
+pub fn commit_item<O: Operator, T: SeqType>(
+    op: &O,
+    item: Item,
+    rooms: &mut [T],
+    worklist: &mut Worklist,
+    outcome: &mut Outcome,
+) -> Result<(), NoMemory>
+    requires { O.room_count op.now ≡ length rooms.old }
+    ensures ran { OnOk result (body (O.plan op.now item) (in_rooms (map T.state rooms.old)) ≡ record { outcome = outcome_of outcome.new; states = in_rooms (map T.state rooms.new) }) }
+    ensures ready { OnOk result (worklist.new ≡ ready_after worklist.old item (outcome_of outcome.new)) }
+{
+    run_body(op, item, rooms, outcome)?;
+    worklist.remove(item);
+    worklist.insert_all(&outcome.pushes)?;
+    Ok(())
 }
 
 /// Runs the bodies of the ready items one after another on plain objects, the least ready item first, until none is ready.
@@ -83,18 +101,17 @@ pub fn run_serially<O: Operator, T: SeqType>(
     let mut worklist = Worklist::new(alloc);
     worklist.insert_all(ready)?;
     let mut commits = Vec::new(alloc);
-    let mut pushes = Vec::new(alloc);
-    while let Some(item) = worklist.take_least() {
+    let mut outcome = Outcome::new(alloc);
+    while let Some(item) = worklist.least() {
         if commits.len() == MOST_COMMITS {
             return Err(SerialStop::Spent);
         }
-        let steps = run_body(op, item, rooms, &mut pushes)?;
-        worklist.insert_all(&pushes)?;
+        commit_item(op, item, rooms, &mut worklist, &mut outcome)?;
         commits.push(Commit {
             worker: 0,
             iter: commits.len() as u64,
             item,
-            steps,
+            steps: outcome.steps.len() as u64,
         })?;
     }
     Ok(commits)

@@ -56,6 +56,31 @@ impl Worklist {
         Ok(())
     }
 
+    pub fn has(&self, item: Item) -> bool
+        ensures { result ≡ has_item self.now item }
+    {
+        self.items.contains(&item)
+    }
+
+    /// The least item.
+    pub fn least(&self) -> Option<Item>
+        ensures ready { IfSome result (λ item. IsTrue (has_item self.now item)) }
+        ensures least { IfSome result (λ item. IsTrue (is_least self.now item)) }
+        ensures none { IfNone result (self.now ≡ []) }
+    {
+        match self.items.first() {
+            Some(item) => Some(*item),
+            None => None,
+        }
+    }
+
+    /// Takes an item out. It is no fault if it isn't ready.
+    pub fn remove(&mut self, item: Item)
+        ensures { self.new ≡ without_item self.old item }
+    {
+        self.items.remove(&item);
+    }
+
     /// Takes out the least item.
     pub fn take_least(&mut self) -> Option<Item>
         ensures first { IfSome result (λ item. self.old ≡ item ∷ self.new) }

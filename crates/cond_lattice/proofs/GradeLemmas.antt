@@ -12,7 +12,7 @@ use Rattle.gx_base.specs.Conditions.{Condition, True, False, Ne, And}
 use Rattle.gx_base.specs.Below.{names_state, term_names}
 use Rattle.gx_base.specs.Methods.{first_method, words_of, is_method}
 use Rattle.gx_base.specs.Tables.{Rows}
-use Rattle.gx_base.proofs.MethodPlaces.{within_of}
+use Rattle.gx_base.proofs.CallerLemmas.{within_of}
 use Rattle.cond_lattice.specs.declared.grades.Grade.{Grade}
 use Rattle.cond_lattice.specs.declared.grades.Grade.TheVariants.{Simple, Online, General}
 use Rattle.cond_lattice.specs.Grades.{are_across, is_conjunction, is_simple, grade_of, greater, greatest, first_grade, table_grade}

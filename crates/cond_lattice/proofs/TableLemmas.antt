@@ -5,7 +5,7 @@ use Rattle.gx_base.specs.Conditions.{Condition, False}
 use Rattle.gx_base.specs.Methods.{is_method}
 use Rattle.gx_base.specs.Tables.{Rows, KeepsToKind}
 use Rattle.gx_base.specs.Below.{IsBelow, AreBelow}
-use Rattle.gx_base.specs.BelowLaws.{False-IsBelow}
+use Rattle.gx_base.proofs.CallerLemmas.{False-IsBelow}
 use Rattle.cond_lattice.specs.declared.grades.Grade.{Grade}
 use Rattle.cond_lattice.specs.declared.grades.Grade.TheVariants.{Simple, Online, General}
 use Rattle.cond_lattice.specs.Grades.{greater, greatest}

@@ -11,7 +11,7 @@ use Rattle.gx_base.specs.Kinds.{kind_number}
 use Rattle.gx_base.specs.Methods.{first_method, words_of, methods_of, is_method, method_of, word_of}
 use Rattle.gx_base.specs.Tables.{Rows}
 use Rattle.gx_base.specs.TableRows.{RowMap, pair_cmp, row_of, put_row}
-use Rattle.gx_base.specs.TableRowLaws.{pair_cmp_total, same_pair, row_of-empty, row_of-insert}
+use Rattle.gx_base.proofs.CallerLemmas.{pair_cmp_total, same_pair, row_of-empty, row_of-insert}
 use Rattle.text_lines.specs.Lines.{lines_of}
 use Rattle.cond_syntax.specs.PieceLaws.{cases_bool, both, space-IsApart}
 use Rattle.cond_syntax.specs.Tokens.{Word, Colon, tokens_of}

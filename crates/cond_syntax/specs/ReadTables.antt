@@ -19,7 +19,7 @@ use Rattle.gx_base.specs.Conditions.{Condition}
 use Rattle.gx_base.specs.Kinds.{kind_number}
 use Rattle.gx_base.specs.Methods.{first_method, words_of, is_method, method_of}
 use Rattle.gx_base.specs.TableRows.{RowMap, pair_cmp, row_of, row_or_false}
-use Rattle.gx_base.specs.TableRowLaws.{pair_cmp_total, same_pair, same_pair-is}
+use Rattle.gx_base.proofs.CallerLemmas.{pair_cmp_total, same_pair, same_pair-is}
 use Rattle.text_lines.specs.Lines.{lines_of}
 use Rattle.text_lines.specs.Numbers.{all_digits, value_from, number_of}
 use Rattle.cond_syntax.specs.PieceLaws.{cases_bool, both}

@@ -4,7 +4,7 @@ use Rattle.std.specs.FinMap as map
 use Rattle.std.proofs.lemmas.List.Folds.{list_any-append}
 use Rattle.gx_base.specs.Conditions.{Condition}
 use Rattle.gx_base.specs.TableRows.{RowMap, pair_cmp}
-use Rattle.gx_base.specs.TableRowLaws.{pair_cmp_total, same_pair, same_pair-parts, same_pair-sym}
+use Rattle.gx_base.proofs.CallerLemmas.{pair_cmp_total, same_pair, same_pair-parts, same_pair-sym}
 use Rattle.cond_text.specs.Pairs.{is_pair, has_pair}
 
 -- no pair is placed where there are no rows

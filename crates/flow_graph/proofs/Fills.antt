@@ -6,14 +6,14 @@ use Rattle.gx_base.specs.declared.kinds.Kind.TheVariants.{Flow}
 use Rattle.gx_base.specs.declared.kinds.Choice.{Choice}
 use Rattle.gx_base.specs.declared.kinds.Choice.TheVariants.{Precise, Simple, Rw, Global}
 use Rattle.gx_base.specs.Conditions.{Condition, False}
-use Rattle.gx_base.specs.Deeds.{Deed, Use, Nothing, On, flow_use}
-use Rattle.gx_base.specs.ForeignMethods.{flow_use-foreign}
+use Rattle.gx_base.specs.RegisterDeeds.{Deed, Use, Nothing, On}
+use Rattle.gx_base.specs.FlowKind.{flow_use}
+use Rattle.gx_base.proofs.CallerLemmas.{flow_use-foreign, row_of-empty, row_of-insert}
 use Rattle.gx_base.specs.Methods.{is_method}
 use Rattle.gx_base.specs.PreciseTables.{use_row}
 use Rattle.gx_base.specs.ShippedTables.{shipped_rows, use_by, simple_deeds, rw_deeds}
 use Rattle.gx_base.specs.Tables.{Rows}
 use Rattle.gx_base.specs.TableRows.{RowMap, row_of}
-use Rattle.gx_base.specs.TableRowLaws.{row_of-empty, row_of-insert}
 use Rattle.flow_graph.specs.Filling.{is_put, filled_to}
 
 none_put : (m n : ℕ) → is_put 16 16 m n ≡ false

@@ -3,7 +3,8 @@ use Rattle.std.proofs.Common.{◌≡◌, ℕ, zero, suc, ℤ, List, sym, ◌∙�
 use Rattle.std.specs.FinMap as map
 use Rattle.gx_base.specs.declared.calls.Made.{Made}
 use Rattle.gx_base.specs.States.{State, row_cmp, rows_with, number_at, with_number}
-use Rattle.gx_base.specs.Deeds.{Use, Nothing, On, Reads, Adds, Sets, flow_use}
+use Rattle.gx_base.specs.RegisterDeeds.{Use, Nothing, On, Reads, Adds, Sets}
+use Rattle.gx_base.specs.FlowKind.{flow_use}
 use Rattle.number_rows.specs.declared.rows.NumberRows.{NumberRows}
 use Rattle.number_rows.specs.Rows.{number_in}
 use Rattle.number_rows.specs.NumberRows.{rows_of}

@@ -5,7 +5,8 @@ use Rattle.gx_base.specs.declared.calls.Made.{Made}
 use Rattle.gx_base.specs.declared.kinds.Kind.{Kind}
 use Rattle.gx_base.specs.declared.kinds.Kind.TheVariants.{Flow}
 use Rattle.gx_base.specs.States.{State}
-use Rattle.gx_base.specs.Deeds.{Use, Nothing, On, Reads, Adds, Sets, flow_use}
+use Rattle.gx_base.specs.RegisterDeeds.{Use, Nothing, On, Reads, Adds, Sets}
+use Rattle.gx_base.specs.FlowKind.{flow_use}
 use Rattle.gx_base.specs.Steps.{IsState}
 use Rattle.number_rows.specs.NumberRows.{rows_of, number-fits}
 use Rattle.flow_graph.specs.declared.shard.FlowShard.{FlowShard}

@@ -1,6 +1,6 @@
 -- What the methods of a flow shard use, as the meanings of calls name it.
 use Rattle.std.specs.Prelude.{ℕ, Option, Some, None}
-use Rattle.gx_base.specs.Deeds as meaning
+use Rattle.gx_base.specs.RegisterDeeds as meaning
 use Rattle.flow_graph.specs.declared.uses.Quantity.{Quantity}
 use Rattle.flow_graph.specs.declared.uses.Quantity.TheVariants.{Height, Excess, Flow}
 use Rattle.flow_graph.specs.declared.uses.Deed.{Deed}

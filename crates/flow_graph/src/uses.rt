@@ -1,6 +1,6 @@
 //! What each method of a flow shard does, and with which of its numbers.
 ghost use Rattle.std.specs.Prelude.{◌≡◌};
-ghost use Rattle.gx_base.specs.Deeds.{flow_use};
+ghost use Rattle.gx_base.specs.FlowKind.{flow_use};
 ghost use Rattle.flow_graph.specs.Uses.{sort_of, use_from};
 
 /// The first method of flow shards, and what follows the last.

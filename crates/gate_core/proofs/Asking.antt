@@ -9,7 +9,7 @@ use Rattle.gx_base.specs.TableRows.{RowMap}
 use Rattle.gx_base.specs.States.{State}
 use Rattle.gx_base.specs.Steps.{next_state, reply_to, inverse, IsState, IsCall}
 use Rattle.gx_base.specs.Tables.{Rows}
-use Rattle.gx_base.specs.Laws.{undoes}
+use Rattle.gx_base.proofs.CallerLemmas.{undoes}
 use Rattle.gate_core.specs.declared.refusals.Told.{Told}
 use Rattle.gate_core.specs.Entries.{made_of}
 use Rattle.gate_core.specs.Replays.{Legal, start_of, AllSawRight, LeadTo}

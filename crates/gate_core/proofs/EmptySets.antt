@@ -7,8 +7,8 @@ use Rattle.gx_base.specs.declared.calls.Call.{Call}
 use Rattle.gx_base.specs.declared.calls.Reply.{Reply}
 use Rattle.gx_base.specs.States.{row_cmp}
 use Rattle.gx_base.specs.Meanings.{number_reply}
-use Rattle.gx_base.specs.Sets.{Add, Remove, Contains, Nothing, set_deed, set_act}
-use Rattle.gx_base.specs.Acts.{act_next, act_reply, act_inverse}
+use Rattle.gx_base.specs.SetKind.{Add, Remove, Contains, Nothing, set_deed, set_action}
+use Rattle.gx_base.specs.RowActions.{action_next, action_reply, action_inverse}
 use Rattle.gx_base.specs.Replays.{no_state}
 use Rattle.gx_base.specs.Steps.{next_state, reply_to, inverse, observed}
 
@@ -27,15 +27,15 @@ pub record IsQuiet (c : Call) : Type 0 where
   pub reply : reply_to no_state c ≡ number_reply (pos 0)
   pub undone : (r : Reply) → inverse no_state c r ≡ no_state
 
-next_by : (b : Bool) (x : ℤ) → act_next (set_act (if b then Contains else Nothing)) no_state x ≡ no_state
+next_by : (b : Bool) (x : ℤ) → action_next (set_action (if b then Contains else Nothing)) no_state x ≡ no_state
 next_by true x = refl
 next_by false x = refl
 
-reply_by : (b : Bool) (x : ℤ) → act_reply (set_act (if b then Contains else Nothing)) no_state x ≡ number_reply (pos 0)
+reply_by : (b : Bool) (x : ℤ) → action_reply (set_action (if b then Contains else Nothing)) no_state x ≡ number_reply (pos 0)
 reply_by true x = ap (λ row. number_reply (if is_some row then pos 1 else pos 0)) (map.get-empty row_cmp (0, x))
 reply_by false x = refl
 
-inverse_by : (b : Bool) (x : ℤ) (r : Reply) → act_inverse (set_act (if b then Contains else Nothing)) no_state x r ≡ no_state
+inverse_by : (b : Bool) (x : ℤ) (r : Reply) → action_inverse (set_action (if b then Contains else Nothing)) no_state x r ≡ no_state
 inverse_by true x r = refl
 inverse_by false x r = refl
 
@@ -44,9 +44,9 @@ unfolding next_state reply_to inverse
 quiet c h =
     let e : set_deed c.method ≡ (if c.method == 2 then Contains else Nothing) = looks c.method h in
     record {
-      next = ap (λ d. act_next (set_act d) no_state c.a) e ∙ next_by (c.method == 2) c.a;
-      reply = ap (λ d. act_reply (set_act d) no_state c.a) e ∙ reply_by (c.method == 2) c.a;
-      undone = λ r. ap (λ d. act_inverse (set_act d) no_state c.a r) e ∙ inverse_by (c.method == 2) c.a r;
+      next = ap (λ d. action_next (set_action d) no_state c.a) e ∙ next_by (c.method == 2) c.a;
+      reply = ap (λ d. action_reply (set_action d) no_state c.a) e ∙ reply_by (c.method == 2) c.a;
+      undone = λ r. ap (λ d. action_inverse (set_action d) no_state c.a r) e ∙ inverse_by (c.method == 2) c.a r;
     }
 
 pub unseen : (x : ℤ) → pos 0 ≡ observed no_state x

@@ -6,7 +6,7 @@ use Rattle.gx_base.specs.declared.items.Item.{Item}
 use Rattle.gx_base.specs.States.{State}
 use Rattle.gx_base.specs.Steps.{next_state, reply_to, inverse, observed, IsState, IsCall}
 use Rattle.gx_base.specs.Tables.{Rows}
-use Rattle.gx_base.specs.Laws.{undoes, next_state-IsState}
+use Rattle.gx_base.proofs.CallerLemmas.{undoes, next_state-IsState}
 use Rattle.gx_base.specs.declared.acts.Entry.{Entry}
 use Rattle.gate_core.specs.Entries.{same_iteration, is_of, entries_of, others_than, has_entry, last_of, without_last, done_under, Each, mark_after, mark_of, NumbersRise}
 use Rattle.gate_core.specs.Replays.{after, Legal, start_of, AllCalls, pair_ok, PairsFit, AllSawRight, further, first_failing, Stands}

@@ -4,7 +4,7 @@ use Rattle.std.proofs.Common.{sym, ◌∙◌, ap, subst}
 use Rattle.gx_base.specs.States.{State}
 use Rattle.gx_base.specs.Steps.{next_state, reply_to, inverse, IsCall}
 use Rattle.gx_base.specs.Tables.{Rows, IsValid}
-use Rattle.gx_base.specs.Laws.{undoes}
+use Rattle.gx_base.proofs.CallerLemmas.{undoes}
 use Rattle.gx_base.specs.declared.acts.Entry.{Entry}
 use Rattle.gate_core.specs.Entries.{same_iteration, is_of, has_entry, last_of, without_last, Each}
 use Rattle.gate_core.specs.Replays.{after, Legal, AllCalls, pair_ok, PairsFit, SawRight, AllSawRight, Stands}

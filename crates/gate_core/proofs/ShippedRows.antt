@@ -8,14 +8,14 @@ use Rattle.gx_base.specs.declared.kinds.Choice.TheVariants.{Precise, Simple, Rw,
 use Rattle.gx_base.specs.Kinds.{kind_number}
 use Rattle.gx_base.specs.Conditions.{Condition, False}
 use Rattle.gx_base.specs.Methods.{is_method}
-use Rattle.gx_base.specs.Deeds.{Deed, On, Nothing as NoUse, use_of}
-use Rattle.gx_base.specs.Sets.{Add, Remove, Contains, Nothing as NoSetDeed, set_deed}
-use Rattle.gx_base.specs.Points.{Add as AddPoint, Remove as RemovePoint, At, Nearest, Nothing as NoPointDeed, point_deed}
-use Rattle.gx_base.specs.Domains.{Weigh, Total, Move, Credit, Sum, Nothing as NoDomainDeed, domain_deed}
-use Rattle.gx_base.specs.ForeignMethods.{set_deed-foreign, cells_use-foreign, flow_use-foreign, point_deed-foreign, domain_deed-foreign}
+use Rattle.gx_base.specs.RegisterDeeds.{Deed, On, Nothing as NoUse}
+use Rattle.gx_base.specs.RegisterUses.{use_of}
+use Rattle.gx_base.specs.SetKind.{Add, Remove, Contains, Nothing as NoSetDeed, set_deed}
+use Rattle.gx_base.specs.PointKind.{Add as AddPoint, Remove as RemovePoint, At, Nearest, Nothing as NoPointDeed, point_deed}
+use Rattle.gx_base.specs.DomainKind.{Weigh, Total, Move, Credit, Sum, Nothing as NoDomainDeed, domain_deed}
+use Rattle.gx_base.proofs.CallerLemmas.{set_deed-foreign, cells_use-foreign, flow_use-foreign, point_deed-foreign, domain_deed-foreign, shipped_rows-IsValid, false_rows-IsValid}
 use Rattle.gx_base.specs.PreciseTables.{set_row, use_row, point_row, domain_row}
 use Rattle.gx_base.specs.ShippedTables.{simple_set, use_by, simple_deeds, rw_deeds, simple_point, rw_point, simple_domain, rw_domain, shipped_rows, rows_shipped, IsShipped}
-use Rattle.gx_base.specs.ShippedLaws.{shipped_rows-IsValid, false_rows-IsValid}
 use Rattle.gx_base.specs.TableRows.{RowMap, row_of}
 use Rattle.gx_base.specs.Tables.{Rows, KeepsToKind, IsValid}
 

@@ -6,7 +6,7 @@ use Rattle.gx_base.specs.Conditions.{holds}
 use Rattle.gx_base.specs.States.{State}
 use Rattle.gx_base.specs.Steps.{next_state, reply_to, IsCall}
 use Rattle.gx_base.specs.Tables.{Rows, uses_state, IsValid, Swaps, row_holds, made_in, LooksBack, SeesAlike}
-use Rattle.gx_base.specs.Laws.{kind-next_state, next_state-IsState}
+use Rattle.gx_base.proofs.CallerLemmas.{kind-next_state, next_state-IsState}
 use Rattle.gx_base.specs.declared.acts.Entry.{Entry}
 use Rattle.gate_core.specs.Entries.{made_of, same_iteration}
 use Rattle.gate_core.specs.Replays.{seen_at, pair_ok, SawRight, Stands}

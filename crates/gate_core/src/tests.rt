@@ -30,7 +30,7 @@ struct Meagre {
 impl SeqType for Meagre {
     ghost use Rattle.std.specs.Prelude.{false, nat_lt};
     ghost use Rattle.gx_base.specs.Replays.{no_state};
-    ghost use Rattle.gx_base.specs.Sets.{IsMark};
+    ghost use Rattle.gx_base.specs.SetKind.{IsMark};
     ghost use Rattle.gx_base.specs.States.{row_cmp};
     ghost use Rattle.std.proofs.Common.{subst, sym};
     ghost use Rattle.std.specs.FinMap as map;

@@ -1,3 +1,9 @@
-pub mod RowPlaces
-pub mod MethodSearch
-pub mod MethodPlaces
+pub mod CallerLemmas
+pub mod states
+pub mod methods
+pub mod object_kinds
+pub mod table_lemmas
+pub mod validity
+pub mod replays
+pub mod bodies
+pub mod serial

@@ -1,7 +1,10 @@
 -- What bodies have done, and the commits that record it.
-use Rattle.std.specs.Prelude.{ℕ, List, [], ◌∷◌, ◌++◌}
+use Rattle.std.specs.Prelude.{ℕ, List, [], ◌∷◌, ◌++◌, refl}
+use Rattle.std.specs.Coded.{Coded, code_by, coded×, coded_ℕ, coded_list}
 use Rattle.gx_base.specs.declared.items.Item.{Item}
 use Rattle.gx_base.specs.declared.acts.Step.{Step}
+use Rattle.gx_base.specs.contracts.items.Item as item
+use Rattle.gx_base.specs.contracts.acts.Step as step
 
 -- the steps of a body, and the items that it adds to the ready set and withdraws from it
 pub record Outcome : Type 0 where
@@ -33,7 +36,35 @@ abbrev pub order_of : List Commit → List Item
 order_of [] = []
 order_of (c ∷ cs) = c.item ∷ order_of cs
 
+-- what their bodies did
+abbrev pub outcomes_of : List Commit → List Outcome
+outcomes_of [] = []
+outcomes_of (c ∷ cs) = c.outcome ∷ outcomes_of cs
+
 -- the steps of all commits
 abbrev pub journal : List Commit → List Step
 journal [] = []
 journal (c ∷ cs) = c.outcome.steps ++ journal cs
+
+-- ---- how these are stored
+
+abbrev pub item_code : Coded Item
+item_code = (item.the_row).coded
+
+abbrev pub step_code : Coded Step
+step_code = (step.the_row).coded
+
+-- an outcome and a commit are stored as their fields
+abbrev pub outcome_code : Coded Outcome
+outcome_code =
+    code_by (List Step × (List Item × List Item)) (coded× (coded_list step_code) (coded× (coded_list item_code) (coded_list item_code)))
+    (λ o. (o.steps, (o.pushes, o.withdrawn)))
+    (λ p. record { steps = p.0; pushes = p.1.0; withdrawn = p.1.1 })
+    (λ _. refl)
+
+abbrev pub commit_code : Coded Commit
+commit_code =
+    code_by (ℕ × (ℕ × (Item × Outcome))) (coded× coded_ℕ (coded× coded_ℕ (coded× item_code outcome_code)))
+    (λ c. (c.worker, (c.iter, (c.item, c.outcome))))
+    (λ p. record { worker = p.0; iter = p.1.0; item = p.1.1.0; outcome = p.1.1.1 })
+    (λ _. refl)

@@ -4,10 +4,11 @@ use Rattle.gx_base.specs.declared.conditions.Side.TheVariants.{First, Second}
 use Rattle.gx_base.specs.declared.conditions.Part.TheVariants.{ArgFirst, ArgSecond, RepFirst, RepSecond}
 use Rattle.gx_base.specs.declared.conditions.Term.TheVariants.{Const, Value, Beyond, State}
 use Rattle.gx_base.specs.Conditions.{Condition, True, False, Eq, Ne, Or, And}
-use Rattle.gx_base.specs.Deeds.{Deed, Reads, Adds, Sets, Use, Nothing as NoUse, On, use_of}
-use Rattle.gx_base.specs.Sets.{SetDeed, Add, Remove, Contains, set_deed}
-use Rattle.gx_base.specs.Points.{PointDeed, Add as AddPoint, Remove as RemovePoint, At, Nearest, point_deed}
-use Rattle.gx_base.specs.Domains.{DomainDeed, Weigh, Total, Move, Credit, Sum, domain_deed}
+use Rattle.gx_base.specs.RegisterDeeds.{Deed, Reads, Adds, Sets, Use, Nothing as NoUse, On}
+use Rattle.gx_base.specs.RegisterUses.{use_of}
+use Rattle.gx_base.specs.SetKind.{SetDeed, Add, Remove, Contains, set_deed}
+use Rattle.gx_base.specs.PointKind.{PointDeed, Add as AddPoint, Remove as RemovePoint, At, Nearest, point_deed}
+use Rattle.gx_base.specs.DomainKind.{DomainDeed, Weigh, Total, Move, Credit, Sum, domain_deed}
 use Rattle.gx_base.specs.Tables.{Rows}
 
 -- the two calls name different numbers

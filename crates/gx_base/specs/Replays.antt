@@ -1,10 +1,34 @@
--- The states of rooms, and the replay of steps over them.
-use Rattle.std.specs.Prelude.{◌≡◌, ℕ, ◌==◌, if◌then◌else◌, List, [], ◌∷◌, slice_index_or}
+-- Replays: of the calls of one room, and of steps over the states of all rooms.
+use Rattle.std.specs.Prelude.{◌≡◌, ℕ, ◌==◌, if◌then◌else◌, List, [], ◌∷◌, slice_index_or, ⊤}
 use Rattle.std.specs.FinMap as map
 use Rattle.gx_base.specs.declared.calls.Made.{Made}
 use Rattle.gx_base.specs.declared.acts.Step.{Step}
 use Rattle.gx_base.specs.States.{State}
-use Rattle.gx_base.specs.Steps.{next_state, reply_to}
+use Rattle.gx_base.specs.Steps.{next_state, reply_to, inverse, IsCall}
+
+-- ---- one room
+
+-- the state after calls
+abbrev pub after : State → List Made → State
+after s [] = s
+after s (made ∷ mades) = after (next_state s made.call) mades
+
+-- the calls lead from s to t, and each reply is that of the state at its turn
+abbrev pub Legal : State → List Made → State → Type 0
+Legal s [] t = s ≡ t
+Legal s (made ∷ mades) t = (reply_to s made.call ≡ made.reply) × Legal (next_state s made.call) mades t
+
+-- the state before calls that led to t
+abbrev pub start_of : State → List Made → State
+start_of t [] = t
+start_of t (made ∷ mades) = inverse (start_of t mades) made.call made.reply
+
+-- each of them is a call that an object may be asked
+abbrev pub AreCalls : List Made → Type 0
+AreCalls [] = ⊤
+AreCalls (made ∷ mades) = IsCall made.call × AreCalls mades
+
+-- ---- all rooms
 
 -- an empty set
 abbrev pub no_state : State

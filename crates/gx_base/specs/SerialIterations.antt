@@ -1,5 +1,5 @@
 -- Serial iteration: the bodies of an order of items, one after another on the plain states.
-use Rattle.std.specs.Prelude.{ℕ, Bool, true, not, ◌&&◌, ◌||◌, if◌then◌else◌, Option, Some, None, List, [], ◌∷◌}
+use Rattle.std.specs.Prelude.{ℕ, Bool, true, not, ◌&&◌, ◌||◌, if◌then◌else◌, Option, Some, None, List, [], ◌∷◌, ◌++◌}
 use Rattle.gx_base.specs.declared.items.Item.{Item}
 use Rattle.gx_base.specs.States.{State}
 use Rattle.gx_base.specs.Steps.{next_state, reply_to}
@@ -42,6 +42,11 @@ abbrev pub with_first : Outcome → Option Ended → Option Ended
 with_first o None = None
 with_first o (Some ended) = Some (record ended { outcomes = o ∷ ended.outcomes })
 
+-- an end, where there is one, with the outcomes of bodies that ran before
+abbrev pub with_before : List Outcome → Option Ended → Option Ended
+with_before outcomes None = None
+with_before outcomes (Some ended) = Some (record ended { outcomes = outcomes ++ ended.outcomes })
+
 -- defined where each item of the order may commit at its turn
 unfoldable pub serial : Operator → (ℕ → State) → List Item → List Item → Option Ended
 serial op states ready [] = Some (record { states = states; ready = ready; outcomes = [] })
@@ -49,6 +54,11 @@ serial op states ready (item ∷ order) =
     if may_commit op.ordered ready item
     then with_first (body (op.plan item) states).outcome (serial op (body (op.plan item) states).states (ready_after ready item (body (op.plan item) states).outcome) order)
     else None
+
+-- a serial iteration that goes on where another one has ended
+abbrev pub then_serial : Operator → List Item → Option Ended → Option Ended
+then_serial op order None = None
+then_serial op order (Some ended) = with_before ended.outcomes (serial op ended.states ended.ready order)
 
 -- the same operator in a loop that takes the least ready item at each turn
 abbrev pub least_first : Operator → Operator

@@ -7,10 +7,11 @@ use Rattle.gx_base.specs.declared.kinds.Choice.{Choice}
 use Rattle.gx_base.specs.declared.kinds.Choice.TheVariants.{Precise, Simple, Rw, Global}
 use Rattle.gx_base.specs.Conditions.{Condition, True, False, Ne}
 use Rattle.gx_base.specs.Kinds.{kind_number}
-use Rattle.gx_base.specs.Deeds.{Deed, Reads, Adds, Use, Nothing as NoUse, On, use_of}
-use Rattle.gx_base.specs.Sets.{SetDeed, Contains, Nothing as NoSetDeed, set_deed}
-use Rattle.gx_base.specs.Points.{PointDeed, Add as AddPoint, Remove as RemovePoint, At, Nearest, Nothing as NoPointDeed, point_deed}
-use Rattle.gx_base.specs.Domains.{DomainDeed, Total, Sum, Move, Credit, Weigh, Nothing as NoDomainDeed, domain_deed}
+use Rattle.gx_base.specs.RegisterDeeds.{Deed, Reads, Adds, Use, Nothing as NoUse, On}
+use Rattle.gx_base.specs.RegisterUses.{use_of}
+use Rattle.gx_base.specs.SetKind.{SetDeed, Contains, Nothing as NoSetDeed, set_deed}
+use Rattle.gx_base.specs.PointKind.{PointDeed, Add as AddPoint, Remove as RemovePoint, At, Nearest, Nothing as NoPointDeed, point_deed}
+use Rattle.gx_base.specs.DomainKind.{DomainDeed, Total, Sum, Move, Credit, Weigh, Nothing as NoDomainDeed, domain_deed}
 use Rattle.gx_base.specs.Tables.{Rows}
 use Rattle.gx_base.specs.PreciseTables.{other_rows, precise_rows}
 use Rattle.gx_base.specs.TableRows.{RowMap, row_of}

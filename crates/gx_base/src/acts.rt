@@ -20,6 +20,15 @@ pub struct Step {
     pub reply: Reply,
 }
 
+/// A committed iteration: its worker, its number at that worker, its item and the number of its steps.
+#[derive(Clone, Copy, Debug, PartialEq, Eq, Drop)]
+pub struct Commit {
+    pub worker: u32,
+    pub iter: u64,
+    pub item: Item,
+    pub steps: u64,
+}
+
 /// A call in the log of a gate.
 #[derive(Clone, Copy, Debug, PartialEq, Eq, Drop)]
 pub struct Entry {

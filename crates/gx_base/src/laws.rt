@@ -1,8 +1,13 @@
 //! Laws of calls and tables, over their definitions alone. A caller of one of these empty functions
 //! may use what it ensures.
 
-ghost use Rattle.std.specs.Prelude.{◌≡◌, ℕ, false};
+ghost use Rattle.std.specs.Prelude.{◌≡◌, ℕ, false, Option, Some, None, List, [], ◌∷◌, ◌++◌};
+ghost use Rattle.gx_base.specs.declared.acts.Act.TheVariants as acts;
+ghost use Rattle.gx_base.specs.declared.acts.Step.{Step};
 ghost use Rattle.gx_base.specs.declared.calls.Call.{Call};
+ghost use Rattle.gx_base.specs.declared.calls.Made.{Made};
+ghost use Rattle.gx_base.specs.declared.calls.Reply.{Reply};
+ghost use Rattle.gx_base.specs.declared.items.Item.{Item};
 ghost use Rattle.gx_base.specs.declared.kinds.Choice.{Choice};
 ghost use Rattle.gx_base.specs.declared.kinds.Kind.TheVariants.{Set, Cells, Points, Domains};
 ghost use Rattle.gx_base.specs.States.{State};
@@ -13,9 +18,15 @@ ghost use Rattle.gx_base.specs.Kinds.{kind_number};
 ghost use Rattle.gx_base.specs.Methods.{is_method};
 ghost use Rattle.gx_base.specs.ForeignMethods.{ChangesNothing};
 ghost use Rattle.gx_base.specs.ShippedTables.{shipped_rows};
-ghost use Rattle.gx_base.specs.Plans.{Plan};
-ghost use Rattle.gx_base.specs.Replays.{Replays};
-ghost use Rattle.gx_base.specs.SerialIterations.{body};
+ghost use Rattle.gx_base.specs.Plans.{Plan, Done, Operator, Follows};
+ghost use Rattle.gx_base.specs.Outcomes.{Commit, outcomes_of, journal};
+ghost use Rattle.gx_base.specs.RoomViews.{ReplaysAlone};
+ghost use Rattle.gx_base.specs.Replays.{after, Legal, start_of, AreCalls, part, Replays};
+ghost use Rattle.gx_base.specs.BodyRuns.{then_step, RunsTo};
+ghost use Rattle.gx_base.specs.SerialIterations.{body, Ended, serial, then_serial};
+ghost use Rattle.gx_base.specs.SerialRuns.{IsSerialRun, IsSerialRunInTwo, AreInTurn, AreRunsOf};
+
+use crate::homed::Homed;
 
 /// The inverse of a call gives the state before it.
 pub fn inverse_undoes()
@@ -61,4 +72,70 @@ pub fn domains_are_valid()
 /// The steps of a body are legal from the states that it begins in, and lead to those that it ends in.
 pub fn bodies_replay()
     ensures { (plan : Plan) (states : ℕ → State) → Replays states (body plan states).outcome.steps (body plan states).states }
+{}
+
+/// Calls that replay determine the end from the start, and the start from the end.
+pub fn replays_determine_both_ends()
+    ensures end { (s t : State) (mades : List Made) → Legal s mades t → after s mades ≡ t }
+    ensures start { (s t : State) (mades : List Made) → IsState s → AreCalls mades → Legal s mades t → start_of t mades ≡ s }
+    ensures of_rooms { (states ends others : ℕ → State) (steps : List Step) → Replays states steps ends → Replays states steps others → ends ≡ others }
+{}
+
+/// Rooms are independent: steps replay exactly where the part of them in each room does.
+pub fn rooms_replay_apart()
+    ensures apart { (states ends : ℕ → State) (steps : List Step) → Replays states steps ends → (room : ℕ) → Legal (states room) (part room steps) (ends room) }
+    ensures merged { (states ends : ℕ → State) (steps : List Step) → ((room : ℕ) → Legal (states room) (part room steps) (ends room)) → Replays states steps ends }
+{}
+
+/// A replay splits at each prefix, and two replays join where the first ends.
+pub fn replays_split_and_join()
+    ensures split { (states ends : ℕ → State) (xs ys : List Step) → Replays states (xs ++ ys) ends → (between : ℕ → State) × Replays states xs between × Replays between ys ends }
+    ensures joined { (states between ends : ℕ → State) (xs ys : List Step) → Replays states xs between → Replays between ys ends → Replays states (xs ++ ys) ends }
+    ensures parts { (room : ℕ) (xs ys : List Step) → part room (xs ++ ys) ≡ part room xs ++ part room ys }
+{}
+
+/// A run of a plan by replies to its end, whose steps replay from some states, is the body on these states.
+pub fn runs_that_replay_are_bodies()
+    ensures { (plan : Plan) (steps : List Step) (pushes : List Item) (states ends : ℕ → State) → RunsTo plan steps pushes Done → Replays states steps ends → body plan states ≡ record { outcome = record { steps = steps; pushes = pushes; withdrawn = [] }; states = ends } }
+{}
+
+/// The body of a plan, on any states, is a run of the plan by replies.
+pub fn bodies_are_runs()
+    ensures { (plan : Plan) (states : ℕ → State) → RunsTo plan (body plan states).outcome.steps (body plan states).outcome.pushes Done }
+{}
+
+/// A run of a plan by replies goes on by each act that follows: by a call, whatever the reply to it, and by a push. Where the
+/// end follows, it is whole.
+pub fn runs_go_on_by_what_follows()
+    ensures calls { (plan rest : Plan) (left : Option Reply → Plan) (steps : List Step) (pushes : List Item) (room : ℕ) (call : Call) (reply : Reply) → RunsTo plan steps pushes rest → Follows rest (acts.Call room call) left → RunsTo plan (then_step steps room call reply) pushes (left (Some reply)) }
+    ensures pushes { (plan rest : Plan) (left : Option Reply → Plan) (steps : List Step) (pushes : List Item) (item : Item) → RunsTo plan steps pushes rest → Follows rest (acts.Push item) left → RunsTo plan steps (pushes ++ item ∷ []) (left None) }
+    ensures ends { (plan rest : Plan) (left : Option Reply → Plan) (steps : List Step) (pushes : List Item) → RunsTo plan steps pushes rest → Follows rest acts.Done left → RunsTo plan steps pushes Done }
+{}
+
+/// A serial iteration of an order is that of any prefix of it, and then of the rest from where that ended.
+pub fn serial_iteration_splits()
+    ensures { (op : Operator) (states : ℕ → State) (ready xs ys : List Item) → serial op states ready (xs ++ ys) ≡ then_serial op ys (serial op states ready xs) }
+{}
+
+/// A serial run is one of any prefix of its commits, and then one of the others from where that ended.
+pub fn serial_runs_split_and_join()
+    ensures split { (op : Operator) (states : ℕ → State) (ready : List Item) (front rear : List Commit) (ended : Ended) → IsSerialRun op states ready (front ++ rear) ended → IsSerialRunInTwo op states ready front rear ended }
+    ensures joined { (op : Operator) (states : ℕ → State) (ready : List Item) (front rear : List Commit) (ended : Ended) → IsSerialRunInTwo op states ready front rear ended → IsSerialRun op states ready (front ++ rear) ended }
+{}
+
+/// The journal of a serial run replays from its start to its end.
+pub fn journals_replay()
+    ensures { (op : Operator) (states : ℕ → State) (ready : List Item) (commits : List Commit) (ended : Ended) → IsSerialRun op states ready commits ended → Replays states (journal commits) ended.states }
+{}
+
+/// Commits in turn, each of a run of its body by replies, are a serial run where their journal replays.
+pub fn runs_in_turn_are_serial()
+    ensures { (op : Operator) (states ends : ℕ → State) (ready left : List Item) (commits : List Commit) → AreInTurn op.ordered ready commits left → AreRunsOf op commits → Replays states (journal commits) ends → IsSerialRun op states ready commits (record { states = ends; ready = left; outcomes = outcomes_of commits }) }
+{}
+
+/// In a lawful value of a room that is no book, the live entries of each worker replay with no other live ones.
+pub fn live_entries_replay_alone<V: Homed>(value: &V)
+    requires lawful { V.lawful value.now }
+    requires gate { (V.told value.now).is_book ≡ false }
+    ensures { (worker : ℕ) → ReplaysAlone (V.told value.now) worker }
 {}

@@ -9,6 +9,7 @@
 mod acts;
 mod calls;
 mod conditions;
+mod homed;
 mod inputs;
 mod items;
 mod kinds;
@@ -20,9 +21,10 @@ mod tables;
 #[cfg(test)]
 mod tests;
 
-pub use acts::{Act, Entry, Step};
+pub use acts::{Act, Commit, Entry, Step};
 pub use calls::{Call, Made, Reply, Room, Seen, Spot};
 pub use conditions::{Cond, Part, Side, Term, boxed, eval};
+pub use homed::Homed;
 pub use inputs::{InputFault, What};
 pub use items::Item;
 pub use kinds::{Choice, Kind, method_at, method_of, word_of};

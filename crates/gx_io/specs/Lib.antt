@@ -3,6 +3,7 @@ pub mod Refusals
 pub mod Files
 pub mod Sinks
 pub mod Places
+pub mod Schedules
 pub mod MemFiles
 pub mod MemSink
 pub mod NeverFails

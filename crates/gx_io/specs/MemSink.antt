@@ -2,6 +2,7 @@
 use Rattle.std.specs.Prelude.{ℕ, ◌+◌, ◌≤◌, List, ◌++◌, length, take, false}
 use Rattle.gx_io.specs.declared.memory_sink.TheConstants.{ROOM}
 use Rattle.gx_io.specs.declared.memory_sink.MemSink.{MemSink}
+use Rattle.gx_io.specs.Schedules.{Schedule, schedule}
 use Rattle.gx_io.specs.Sinks.{Written}
 
 -- what was written
@@ -11,6 +12,10 @@ written_to sink = record { bytes = sink.bytes.items; flushed = sink.flushed }
 -- how many faults there were
 abbrev pub faults_of : MemSink → ℕ
 faults_of sink = sink.calls.faults
+
+-- the number of the next call, and the numbers of those that are to fail
+abbrev pub schedule_of : MemSink → Schedule
+schedule_of sink = schedule sink.calls
 
 -- how many bytes one write takes at most
 abbrev pub most_of : MemSink → ℕ

@@ -1,7 +1,8 @@
 //! Numbered calls, some of which are to fail.
 
-ghost use Rattle.std.specs.Prelude.{◌≡◌, ◌≤◌, ◌+◌, ◌↔◌, min, IsTrue, Contains};
+ghost use Rattle.std.specs.Prelude.{◌≡◌, ◌≤◌, ◌↔◌, IsTrue};
 ghost use Rattle.gx_io.specs.Faults.{HasRisen};
+ghost use Rattle.gx_io.specs.Schedules.{schedule, FailsNext, after_call};
 
 /// How many calls were made, which ones are to fail, and how many faults there were.
 #[derive(Drop)]
@@ -25,8 +26,9 @@ impl Calls {
 
     /// Counts a call, and says whether it is to fail.
     pub(crate) fn next_fails(&mut self) -> bool
-        ensures fails { IsTrue result ↔ Contains self.old.failing.items self.old.made }
-        ensures counted { self.new ≡ record self.old { made = min (self.old.made + 1) u64.MAX } }
+        ensures fails { IsTrue result ↔ FailsNext (schedule self.old) }
+        ensures counted { schedule self.new ≡ after_call (schedule self.old) }
+        ensures faults { self.new.faults ≡ self.old.faults }
     {
         let fails = self.failing.contains(&self.made);
         self.made = self.made.saturating_add(1);
@@ -37,8 +39,7 @@ impl Calls {
     pub(crate) fn add_fault(&mut self)
         ensures rises { HasRisen self.old.faults self.new.faults }
         ensures never_falls { self.old.faults ≤ self.new.faults }
-        ensures failing { self.new.failing ≡ self.old.failing }
-        ensures made { self.new.made ≡ self.old.made }
+        ensures schedule { schedule self.new ≡ schedule self.old }
     {
         self.faults = self.faults.saturating_add(1);
     }

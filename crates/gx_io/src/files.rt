@@ -28,7 +28,8 @@ pub trait Files {
         ensures started { OnOk result (is_started self.new) }
         ensures refused { OnErr result (left self.new ≡ left self.old) }
         ensures stays_started { is_started self.old → is_started self.new }
-        ensures cause { Counts (faults self.old) (faults self.new) (IsErrOf result IoFault.Failed) (IsOk result) };
+        ensures cause { Counts (faults self.old) (faults self.new) (IsErrOf result IoFault.Failed) (IsOk result) }
+        ensures no_memory { IsErrOf result IoFault.NoMemory → faults self.new ≡ faults self.old };
 
     /// Moves bytes from the front of what is left to the front of the piece, and says how many. A
     /// refusal changes nothing but the count of faults, and maybe the piece.
@@ -42,7 +43,8 @@ pub trait Files {
         ensures end { IfOk result (λ n. IfSome (left self.old) (λ was. 0 < length piece.new → ((n ≡ 0) ↔ (was ≡ [])))) }
         ensures refused { OnErr result (left self.new ≡ left self.old) }
         ensures stays_started { is_started self.new }
-        ensures cause { Counts (faults self.old) (faults self.new) (IsErrOf result IoFault.Failed) (IsOk result) };
+        ensures cause { Counts (faults self.old) (faults self.new) (IsErrOf result IoFault.Failed) (IsOk result) }
+        ensures no_memory { IsErrOf result IoFault.NoMemory → faults self.new ≡ faults self.old };
 }
 
 // How many bytes one call asks for.
@@ -73,6 +75,7 @@ fn take_piece<F: Files>(
     ensures comes { OnOk result ((all : List ℕ) → HasCome all (F.left files.old) bytes.old.items → HasCome all (F.left files.new) bytes.new.items) }
     ensures too_long { IsErrOf result WholeRefuse.TooLong → (all : List ℕ) → HasCome all (F.left files.old) bytes.old.items → limit < length all }
     ensures too_long_kept { IsErrOf result WholeRefuse.TooLong → F.faults files.new ≡ F.faults files.old }
+    ensures no_memory { IsErrOf result WholeRefuse.NoMemory → F.faults files.new ≡ F.faults files.old }
     ensures cause { Counts (F.faults files.old) (F.faults files.new) (IsErrOf result WholeRefuse.Failed) (IsOk result) }
 {
     let n = files.read(piece)?;
@@ -99,6 +102,7 @@ pub fn read_whole<F: Files>(
     // More than `limit` bytes came, and no call failed.
     ensures too_long { IsErrOf result WholeRefuse.TooLong → IfSome (F.holds files.old name.now) (λ all. limit < length all) }
     ensures too_long_kept { IsErrOf result WholeRefuse.TooLong → F.faults files.new ≡ F.faults files.old }
+    ensures no_memory { IsErrOf result WholeRefuse.NoMemory → F.faults files.new ≡ F.faults files.old }
     ensures cause { Counts (F.faults files.old) (F.faults files.new) (IsErrOf result WholeRefuse.Failed) (IsOk result) }
     ensures holds { F.holds files.new ≡ F.holds files.old }
     ensures stays_started { F.is_started files.old → F.is_started files.new }

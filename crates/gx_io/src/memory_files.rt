@@ -1,8 +1,10 @@
 //! Files in memory, with calls that fail.
 
-ghost use Rattle.std.specs.Prelude.{◌≡◌, ◌≤◌, ◌<◌, ℕ, List, [], length, min, take, drop, Option, Some, None, IsSome, MatchOption, IfSome, IsTrue, IsFalse, ◌+◌, ◌^◌, ◌↔◌};
+ghost use Rattle.std.specs.Prelude.{◌≡◌, ◌≤◌, ◌<◌, ℕ, List, [], length, min, take, drop, Option, Some, None, IsSome, MatchOption, IfSome, IfOk, OnOk, OnErr, IsOk, IsErrOf, IsTrue, IsFalse, ◌+◌, ◌^◌, ◌↔◌};
+ghost use Rattle.gx_io.specs.Faults.{Counts};
 ghost use Rattle.gx_io.specs.Places.{bytes_of, bytes_at, rest_of};
 ghost use Rattle.gx_io.specs.Files.{Gives};
+ghost use Rattle.gx_io.specs.Schedules.{fresh, FailsNext, after_call};
 
 use crate::calls::Calls;
 use crate::fault::IoFault;
@@ -21,7 +23,7 @@ pub struct MemFiles {
 }
 
 impl MemFiles {
-    ghost use Rattle.gx_io.specs.MemFiles.{file_of, left_of, faults_of, IsStarted};
+    ghost use Rattle.gx_io.specs.MemFiles.{file_of, left_of, faults_of, schedule_of, IsStarted};
 
     /// Files of these names, the first of each name counting. The calls with the numbers in
     /// `failing` fail.
@@ -30,6 +32,7 @@ impl MemFiles {
         ensures left { left_of result ≡ None }
         ensures not_started { ¬ IsStarted result }
         ensures faults { faults_of result ≡ 0 }
+        ensures schedule { schedule_of result ≡ fresh failing.items }
     {
         MemFiles {
             files,
@@ -43,6 +46,7 @@ impl MemFiles {
     pub(crate) fn go_to(&mut self, name: &str) -> bool
         ensures holds { file_of self.new ≡ file_of self.old }
         ensures faults { faults_of self.new ≡ faults_of self.old }
+        ensures schedule { schedule_of self.new ≡ schedule_of self.old }
         ensures started { IsTrue result → IsStarted self.new }
         ensures left { IsTrue result → left_of self.new ≡ file_of self.old name.now }
         ensures absent { IsFalse result → file_of self.old name.now ≡ None }
@@ -74,6 +78,7 @@ impl MemFiles {
         requires { IsStarted self.old }
         ensures holds { file_of self.new ≡ file_of self.old }
         ensures faults { faults_of self.new ≡ faults_of self.old }
+        ensures schedule { schedule_of self.new ≡ schedule_of self.old }
         ensures started { IsStarted self.new }
         ensures count { result ≤ length piece.new }
         ensures gives { IfSome (left_of self.old) (λ was. Gives was (left_of self.new) piece.new result) }
@@ -86,7 +91,7 @@ impl MemFiles {
 }
 
 impl Files for MemFiles {
-    ghost use Rattle.gx_io.specs.MemFiles.{file_of, left_of, faults_of, IsStarted};
+    ghost use Rattle.gx_io.specs.MemFiles.{file_of, left_of, faults_of, schedule_of, IsStarted};
 
     ghost holds = { file_of };
 
@@ -96,7 +101,20 @@ impl Files for MemFiles {
 
     ghost faults = { faults_of };
 
-    fn start(&mut self, name: &str) -> Result<(), IoFault> {
+    fn start(&mut self, name: &str) -> Result<(), IoFault>
+        ensures exactly { IsOk result ↔ ((¬ FailsNext (schedule_of self.old)) × IsSome (file_of self.old name.now)) }
+        ensures only { OnErr result (IsErrOf result IoFault.Failed) }
+        ensures schedule { schedule_of self.new ≡ after_call (schedule_of self.old) }
+
+        // What every `Files` says.
+        ensures holds { file_of self.new ≡ file_of self.old }
+        ensures left { OnOk result (left_of self.new ≡ file_of self.old name.now) }
+        ensures started { OnOk result (IsStarted self.new) }
+        ensures refused { OnErr result (left_of self.new ≡ left_of self.old) }
+        ensures stays_started { IsStarted self.old → IsStarted self.new }
+        ensures cause { Counts (faults_of self.old) (faults_of self.new) (IsErrOf result IoFault.Failed) (IsOk result) }
+        ensures no_memory { IsErrOf result IoFault.NoMemory → faults_of self.new ≡ faults_of self.old }
+    {
         if !self.calls.next_fails() && self.go_to(name) {
             return Ok(());
         }
@@ -104,7 +122,22 @@ impl Files for MemFiles {
         Err(IoFault::Failed)
     }
 
-    fn read(&mut self, piece: &mut [u8]) -> Result<usize, IoFault> {
+    fn read(&mut self, piece: &mut [u8]) -> Result<usize, IoFault>
+        requires { IsStarted self.old }
+        ensures exactly { IsOk result ↔ (¬ FailsNext (schedule_of self.old)) }
+        ensures only { OnErr result (IsErrOf result IoFault.Failed) }
+        ensures schedule { schedule_of self.new ≡ after_call (schedule_of self.old) }
+
+        // What every `Files` says.
+        ensures holds { file_of self.new ≡ file_of self.old }
+        ensures count { IfOk result (λ n. n ≤ length piece.new) }
+        ensures gives { IfOk result (λ n. IfSome (left_of self.old) (λ was. Gives was (left_of self.new) piece.new n)) }
+        ensures end { IfOk result (λ n. IfSome (left_of self.old) (λ was. 0 < length piece.new → ((n ≡ 0) ↔ (was ≡ [])))) }
+        ensures refused { OnErr result (left_of self.new ≡ left_of self.old) }
+        ensures stays_started { IsStarted self.new }
+        ensures cause { Counts (faults_of self.old) (faults_of self.new) (IsErrOf result IoFault.Failed) (IsOk result) }
+        ensures no_memory { IsErrOf result IoFault.NoMemory → faults_of self.new ≡ faults_of self.old }
+    {
         if self.calls.next_fails() {
             self.calls.add_fault();
             return Err(IoFault::Failed);

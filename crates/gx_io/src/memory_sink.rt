@@ -1,7 +1,10 @@
 //! A sink in memory, with calls that fail.
 
-ghost use Rattle.std.specs.Prelude.{◌≡◌, ◌≤◌, [], length, false, true, Some, IsSome, IfSome, IfNone, IfOk, ◌↔◌};
+ghost use Rattle.std.specs.Prelude.{◌≡◌, ◌≤◌, ◌<◌, [], length, take, false, true, Some, IsSome, IfSome, IfNone, IfOk, OnErr, IsOk, IsErr, ◌↔◌};
 ghost use Rattle.std.specs.Vec.{vec_len, vec_capacity};
+ghost use Rattle.gx_io.specs.Faults.{Counts};
+ghost use Rattle.gx_io.specs.Schedules.{fresh, FailsNext, after_call};
+ghost use Rattle.gx_io.specs.Sinks.{Adds, Flushes};
 ghost use Rattle.gx_io.specs.declared.memory_sink.TheConstants.{ROOM};
 
 use crate::calls::Calls;
@@ -26,7 +29,7 @@ pub struct MemSink {
 }
 
 impl MemSink {
-    ghost use Rattle.gx_io.specs.MemSink.{written_to, written_after, faults_of, most_of, taken_of, Fits};
+    ghost use Rattle.gx_io.specs.MemSink.{written_to, written_after, faults_of, most_of, schedule_of, taken_of, Fits};
 
     /// A sink whose writes take at most `most` bytes each. The calls with the numbers in `failing`
     /// fail.
@@ -35,6 +38,7 @@ impl MemSink {
         ensures written { IfOk result (λ sink. written_to sink ≡ record { bytes = []; flushed = false }) }
         ensures faults { IfOk result (λ sink. faults_of sink ≡ 0) }
         ensures most { IfOk result (λ sink. most_of sink ≡ most) }
+        ensures schedule { IfOk result (λ sink. schedule_of sink ≡ fresh failing.items) }
     {
         Ok(MemSink {
             bytes: Vec::with_capacity(alloc, ROOM)?,
@@ -57,6 +61,8 @@ impl MemSink {
         ensures adds { IfSome result (λ n. written_to self.new ≡ written_after self.old piece.now) }
         ensures room { IsSome result ↔ Fits self.old piece.now }
         ensures faults { faults_of self.new ≡ faults_of self.old }
+        ensures most { most_of self.new ≡ most_of self.old }
+        ensures schedule { schedule_of self.new ≡ schedule_of self.old }
         ensures unchanged { IfNone result (written_to self.new ≡ written_to self.old) }
     {
         let n = self.most.min(piece.len());
@@ -74,19 +80,34 @@ impl MemSink {
     pub(crate) fn send_on(&mut self)
         ensures flushes { written_to self.new ≡ record { bytes = (written_to self.old).bytes; flushed = true } }
         ensures faults { faults_of self.new ≡ faults_of self.old }
+        ensures most { most_of self.new ≡ most_of self.old }
+        ensures schedule { schedule_of self.new ≡ schedule_of self.old }
     {
         self.flushed = true;
     }
 }
 
 impl Sink for MemSink {
-    ghost use Rattle.gx_io.specs.MemSink.{written_to, faults_of};
+    ghost use Rattle.gx_io.specs.MemSink.{written_to, written_after, faults_of, most_of, schedule_of, taken_of, Fits};
 
     ghost told = { λ sink. Some (written_to sink) };
 
     ghost faults = { faults_of };
 
-    fn write(&mut self, piece: &[u8]) -> Result<usize, SinkFailed> {
+    fn write(&mut self, piece: &[u8]) -> Result<usize, SinkFailed>
+        ensures exactly { IsOk result ↔ ((¬ FailsNext (schedule_of self.old)) × Fits self.old piece.now) }
+        ensures taken { IfOk result (λ n. n ≡ length (taken_of self.old piece.now)) }
+        ensures written { IfOk result (λ n. written_to self.new ≡ written_after self.old piece.now) }
+        ensures most { most_of self.new ≡ most_of self.old }
+        ensures schedule { schedule_of self.new ≡ after_call (schedule_of self.old) }
+
+        // What every `Sink` says.
+        ensures count { IfOk result (λ n. n ≤ length piece.now) }
+        ensures takes { IfOk result (λ n. 0 < length piece.now → 1 ≤ n) }
+        ensures adds { IfOk result (λ n. Adds (Some (written_to self.old)) (Some (written_to self.new)) (take n piece.now)) }
+        ensures refused { OnErr result (written_to self.new ≡ written_to self.old) }
+        ensures cause { Counts (faults_of self.old) (faults_of self.new) (IsErr result) (IsOk result) }
+    {
         if !self.calls.next_fails() {
             if let Some(n) = self.add(piece) {
                 return Ok(n);
@@ -96,7 +117,16 @@ impl Sink for MemSink {
         Err(SinkFailed)
     }
 
-    fn flush(&mut self) -> Result<(), SinkFailed> {
+    fn flush(&mut self) -> Result<(), SinkFailed>
+        ensures exactly { IsOk result ↔ (¬ FailsNext (schedule_of self.old)) }
+        ensures most { most_of self.new ≡ most_of self.old }
+        ensures schedule { schedule_of self.new ≡ after_call (schedule_of self.old) }
+
+        // What every `Sink` says.
+        ensures flushes { IsOk result → Flushes (Some (written_to self.old)) (Some (written_to self.new)) }
+        ensures refused { OnErr result (written_to self.new ≡ written_to self.old) }
+        ensures cause { Counts (faults_of self.old) (faults_of self.new) (IsErr result) (IsOk result) }
+    {
         if self.calls.next_fails() {
             self.calls.add_fault();
             return Err(SinkFailed);

@@ -5,7 +5,7 @@ ghost use Rattle.std.specs.Prelude.{◌≡◌, None, IsSome};
 use crate::fault::{IoFault, SinkFailed};
 use crate::files::Files;
 use crate::sinks::Sink;
-use std::io::{Print, Read};
+use std::io::{ErrorKind, Print, Read};
 use std::{fs, rt};
 
 /// The files of the system, by path. What they hold is not told.
@@ -40,12 +40,17 @@ impl<'r, R: rt::Files> Files for StdFiles<'r, R> {
     ghost faults = { λ f. f.faults };
 
     fn start(&mut self, name: &str) -> Result<(), IoFault> {
-        let Ok(file) = fs::open(self.rt, name) else {
-            self.faults = self.faults.saturating_add(1);
-            return Err(IoFault::Failed);
-        };
-        self.started = Some(file);
-        Ok(())
+        match fs::open(self.rt, name) {
+            Ok(file) => {
+                self.started = Some(file);
+                Ok(())
+            }
+            Err(e) if e.kind() == ErrorKind::OutOfMemory => Err(IoFault::NoMemory),
+            Err(_) => {
+                self.faults = self.faults.saturating_add(1);
+                Err(IoFault::Failed)
+            }
+        }
     }
 
     fn read(&mut self, piece: &mut [u8]) -> Result<usize, IoFault> {

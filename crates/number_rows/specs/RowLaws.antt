@@ -6,7 +6,7 @@ use Rattle.std.specs.Ordering.{int_cmp, int_eq}
 use Rattle.std.specs.Cmp.{int_cmp_total, int_eq_equiv, unsigned_Decides, signed_Decides}
 use Rattle.std.specs.FinMap as map
 use Rattle.gx_base.specs.States.{row_cmp, rows_with, first_or_zero, IsNumberRow}
-use Rattle.gx_base.specs.Registers.{row_cmp_total, row_cmp-IsAntisymmetric, get-rows_with, same_row, same_row-is, same_row-sort, row_for, row_for-IsNumberRow}
+use Rattle.gx_base.proofs.CallerLemmas.{row_cmp_total, row_cmp-IsAntisymmetric, get-rows_with, same_row, same_row-is, same_row-sort, row_for, row_for-IsNumberRow}
 use Rattle.number_rows.specs.Rows.{number_in, entries_onto, rows_onto}
 
 -- what stands where a number was found, or not

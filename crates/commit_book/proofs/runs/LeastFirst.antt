@@ -1,5 +1,5 @@
 -- The least ready item is one item, so that a run which takes it at each turn has no choice.
-use Rattle.std.specs.Prelude.{◌≡◌, ℕ, ◌≤◌, Bool, true, false, not, ◌&&◌, ◌||◌, if◌then◌else◌, Option, Some, None, List, [], ◌∷◌, length, take, ℤ, refl}
+use Rattle.std.specs.Prelude.{◌≡◌, ℕ, ◌≤◌, Bool, true, false, not, ◌&&◌, ◌||◌, if◌then◌else◌, Option, Some, None, List, [], ◌∷◌, length, take, suc, refl}
 use Rattle.std.proofs.Common.{sym, ◌∙◌, ap, subst, arith}
 use Rattle.std.proofs.Math.Seq.{take-length}
 use Rattle.std.proofs.lemmas.List.{length-map}
@@ -9,39 +9,17 @@ use Rattle.std.specs.declared.cmp.Ordering.TheVariants.{Less, Equal, Greater}
 use Rattle.gx_base.specs.declared.items.Item.{Item}
 use Rattle.gx_base.specs.States.{State}
 use Rattle.gx_base.specs.Plans.{Operator}
-use Rattle.gx_base.specs.Outcomes.{Outcome}
-use Rattle.gx_base.specs.Swapping.{same_int}
+use Rattle.gx_base.specs.Outcomes.{Outcome, Commit, order_of}
 use Rattle.gx_base.specs.Worklists.{item_cmp, same_item, is_before, has_item, is_least}
+use Rattle.gx_base.specs.declared.acts.Commit.{Commit as Counted}
+use Rattle.gx_base.specs.SerialRuns.{counted, all_counted}
 use Rattle.gx_base.specs.SerialIterations.{body, Ended, may_commit, ready_after, with_first, serial, least_first}
-use Rattle.commit_book.specs.declared.operator.Commit.{Commit}
-use Rattle.commit_book.specs.Commits.{items_of}
 use Rattle.commit_book.specs.SerialRuns.{IsWholeRun, IsUnfinished, IsDetermined}
-use Rattle.commit_book.proofs.ready.ReadySets.{item_cmp_total}
+use Rattle.commit_book.proofs.ready.ReadySets.{item_cmp_total, is_equal, item_equal}
 
 both : (a b : Bool) → (a && b) ≡ true → (a ≡ true) × (b ≡ true)
 both true b e = (refl, e)
 both false b e = absurd (cc)
-
-is_equal : (r : Ordering) → is_eq r ≡ true → r ≡ Equal
-is_equal Less e = absurd (cc)
-is_equal Equal e = refl
-is_equal Greater e = absurd (cc)
-
-then_equal : (r s : Ordering) → ordering_then r s ≡ Equal → (r ≡ Equal) × (s ≡ Equal)
-then_equal Less s e = absurd (cc)
-then_equal Equal s e = (refl, e)
-then_equal Greater s e = absurd (cc)
-
-number_equal : (x y : ℤ) → int_cmp x y ≡ Equal → x ≡ y
-number_equal x y e = same_int x y (ap is_eq e)
-
-item_equal : (x y : Item) → item_cmp x y ≡ Equal → x ≡ y
-unfolding item_cmp
-item_equal x y e =
-    let p : (int_cmp x.k0 y.k0 ≡ Equal) × (ordering_then (int_cmp x.k1 y.k1) (ordering_then (int_cmp x.k2 y.k2) (int_cmp x.k3 y.k3)) ≡ Equal) = then_equal _ _ e in
-    let q : (int_cmp x.k1 y.k1 ≡ Equal) × (ordering_then (int_cmp x.k2 y.k2) (int_cmp x.k3 y.k3) ≡ Equal) = then_equal _ _ p.1 in
-    let r : (int_cmp x.k2 y.k2 ≡ Equal) × (int_cmp x.k3 y.k3 ≡ Equal) = then_equal _ _ q.1 in
-    λ i. record { k0 = number_equal x.k0 y.k0 p.0 i; k1 = number_equal x.k1 y.k1 q.0 i; k2 = number_equal x.k2 y.k2 r.0 i; k3 = number_equal x.k3 y.k3 r.1 i }
 
 is_not : (b : Bool) → not b ≡ true → b ≡ false
 is_not true e = absurd (cc)
@@ -131,14 +109,24 @@ abbrev ready_of : Option Ended → List Item
 ready_of None = []
 ready_of (Some ended) = ended.ready
 
-never_unfinished : (op : Operator) (states after other : ℕ → State) (ready : List Item) (commits : List Commit) → IsWholeRun op states ready commits after → IsUnfinished op states ready other → ⊥
-never_unfinished op states after other ready commits w s =
+length-order_of : (commits : List Commit) → length (order_of commits) ≡ length commits
+length-order_of [] = refl
+length-order_of (c ∷ cs) = ap suc (length-order_of cs)
+
+-- as many items commit as are told
+as_many : (told : List Counted) (commits : List Commit) → told ≡ all_counted commits → length (order_of commits) ≡ length told
+as_many told commits e = length-order_of commits ∙ sym (length-map commits counted) ∙ ap length (sym e)
+
+never_unfinished : (op : Operator) (states after other : ℕ → State) (ready : List Item) (told : List Counted) → IsWholeRun op states ready told after → IsUnfinished op states ready other → ⊥
+never_unfinished op states after other ready told w s =
     let end : Ended = record { states = after; ready = []; outcomes = w.outcomes } in
-    let shorter : length (items_of s.commits) ≤ length (items_of commits) = no_longer op states ready (items_of commits) (items_of s.commits) end s.ended w.run.least s.run.least refl in
-    let as_long : length (items_of commits) ≡ length (items_of s.commits) = omega (arith, shorter, w.within, s.full, length-map commits (λ (c : Commit). c.item), length-map s.commits (λ (c : Commit). c.item)) in
-    let same : items_of commits ≡ items_of s.commits =
-    same_order op states ready (items_of commits) (items_of s.commits) end s.ended w.run.least s.run.least (omega (arith, as_long))
-    ∙ ap (λ n. take n (items_of s.commits)) as_long ∙ take-length (items_of s.commits) in
+    let whole : List Item = order_of w.run.commits in
+    let more : List Item = order_of s.run.commits in
+    let shorter : length more ≤ length whole = no_longer op states ready whole more end s.ended w.run.least s.run.least refl in
+    let as_long : length whole ≡ length more = omega (arith, shorter, w.within, s.full, as_many told w.run.commits w.run.are_told, as_many s.told s.run.commits s.run.are_told) in
+    let same : whole ≡ more =
+    same_order op states ready whole more end s.ended w.run.least s.run.least (omega (arith, as_long))
+    ∙ ap (λ n. take n more) as_long ∙ take-length more in
     let ends : Some end ≡ Some s.ended = sym w.run.least ∙ ap (serial (least_first op) states ready) same ∙ s.run.least in
     let left : s.ended.ready ≡ [] = ap ready_of (sym ends) in
     s.ready_still left

@@ -1,139 +1,109 @@
--- A serial iteration, one item at a time.
-use Rattle.std.specs.Prelude.{◌≡◌, ℕ, ◌+◌, ◌≤◌, Bool, true, false, not, ◌&&◌, ◌||◌, if◌then◌else◌, Option, Some, None, List, [], ◌∷◌, ◌++◌, length, refl}
-use Rattle.std.proofs.Common.{sym, ◌∙◌, ap, subst, length-append, arith}
+-- A run that takes the least ready item at each turn, one commit at a time.
+use Rattle.std.specs.Prelude.{◌≡◌, ℕ, ◌+◌, ◌≤◌, Bool, true, false, not, ◌&&◌, ◌||◌, if◌then◌else◌, Some, None, List, [], ◌∷◌, ◌++◌, length, refl}
+use Rattle.std.proofs.Common.{sym, ◌∙◌, ap, subst, arith}
 use Rattle.std.proofs.lemmas.List.{map-append, length-map}
+use Rattle.gx_base.specs.declared.acts.Commit.{Commit as Counted}
 use Rattle.gx_base.specs.declared.items.Item.{Item}
 use Rattle.gx_base.specs.States.{State}
-use Rattle.gx_base.specs.Steps.{next_state, reply_to}
-use Rattle.gx_base.specs.Plans.{Plan, Call, Push, Done, Operator}
-use Rattle.gx_base.specs.Replays.{put}
-use Rattle.gx_base.specs.Outcomes.{Outcome}
-use Rattle.gx_base.specs.Worklists.{has_item, is_least, without_item, without_items, with_items}
+use Rattle.gx_base.specs.Plans.{Operator}
+use Rattle.gx_base.specs.Outcomes.{Outcome, Commit, order_of}
+use Rattle.gx_base.specs.Worklists.{has_item, is_least}
 use Rattle.gx_base.specs.SerialIterations.{body, Ended, may_commit, ready_after, with_first, serial, least_first}
-use Rattle.commit_book.specs.declared.operator.Commit.{Commit}
-use Rattle.commit_book.specs.Commits.{items_of}
-use Rattle.commit_book.specs.SerialRuns.{HasRun, most_commits, commits_of, IsSerialRun, IsWholeRun, IsUnfinished}
+use Rattle.gx_base.specs.SerialRuns.{IsSerialRun, IsSerialRunInTwo, AreNumberedBy, counted, all_counted}
+use Rattle.gx_base.proofs.CallerLemmas.{IsSerialRun-append}
+use Rattle.commit_book.specs.SerialRuns.{most_commits, IsLeastFirstRun, IsWholeRun, IsUnfinished}
 
--- no body withdraws an item
-withdrawn_by-body : (plan : Plan) (states : ℕ → State) → (body plan states).outcome.withdrawn ≡ []
-unfolding body
-withdrawn_by-body (Call room call goes_on) states = withdrawn_by-body (goes_on (reply_to (states room) call)) (put states room (next_state (states room) call))
-withdrawn_by-body (Push item rest) states = withdrawn_by-body rest states
-withdrawn_by-body Done states = refl
-
--- the end after one more item
-abbrev after_item : Operator → Item → Ended → Ended
-after_item op item ended = record {
-  states = (body (op.plan item) ended.states).states;
-  ready = ready_after ended.ready item (body (op.plan item) ended.states).outcome;
-  outcomes = ended.outcomes ++ (body (op.plan item) ended.states).outcome ∷ [];
-}
-
-abbrev then_item : Operator → Item → Option Ended → Option Ended
-then_item op item None = None
-then_item op item (Some ended) = if may_commit op.ordered ended.ready item then Some (after_item op item ended) else None
-
-first_stays : (b : Bool) (o : Outcome) (e f : Ended) → with_first o (if b then Some e else None) ≡ (if b then Some (record e { outcomes = o ∷ e.outcomes }) else None)
-first_stays true o e f = refl
-first_stays false o e f = refl
-
-first_then : (op : Operator) (item : Item) (o : Outcome) (t : Option Ended) → with_first o (then_item op item t) ≡ then_item op item (with_first o t)
-first_then op item o None = refl
-first_then op item o (Some e) = first_stays (may_commit op.ordered e.ready item) o (after_item op item e) e
-
-serial_by : (op : Operator) (item : Item) (o : Outcome) (b : Bool) (t u : Option Ended) → t ≡ then_item op item u → (if b then with_first o t else None) ≡ then_item op item (if b then with_first o u else None)
-serial_by op item o true t u e = ap (with_first o) e ∙ first_then op item o u
-serial_by op item o false t u e = refl
-
-serial-append : (op : Operator) (order : List Item) (item : Item) (states : ℕ → State) (ready : List Item) → serial op states ready (order ++ item ∷ []) ≡ then_item op item (serial op states ready order)
-unfolding serial
-serial-append op [] item states ready = refl
-serial-append op (x ∷ xs) item states ready =
-    serial_by op item (body (op.plan x) states).outcome (may_commit op.ordered ready x) _ _ (serial-append op xs item (body (op.plan x) states).states (ready_after ready x (body (op.plan x) states).outcome))
-
-one_more : (op : Operator) (order : List Item) (item : Item) (states : ℕ → State) (ready : List Item) (ended : Ended) → serial op states ready order ≡ Some ended → may_commit op.ordered ended.ready item ≡ true
-    → serial op states ready (order ++ item ∷ []) ≡ Some (after_item op item ended)
-one_more op order item states ready ended e m =
-    serial-append op order item states ready ∙ ap (then_item op item) e ∙ ap (λ (b : Bool). if b then Some (after_item op item ended) else None) m
-
-commits_of-append : (iter place : ℕ) (xs : List Item) (os : List Outcome) (x : Item) (o : Outcome) → length xs ≡ length os → place ≡ iter + length xs → commits_of iter (xs ++ x ∷ []) (os ++ o ∷ []) ≡ commits_of iter xs os ++ record { worker = 0; iter = place; item = x; steps = length o.steps } ∷ []
-commits_of-append iter place [] [] x o e p = let n : iter ≡ place = omega arith in ap (λ k. record { worker = 0; iter = k; item = x; steps = length o.steps } ∷ []) n
-commits_of-append iter place [] (q ∷ os) x o e p = absurd (omega arith)
-commits_of-append iter place (y ∷ ys) [] x o e p = absurd (omega arith)
-commits_of-append iter place (y ∷ ys) (q ∷ os) x o e p =
-    ap (λ cs. record { worker = 0; iter = iter; item = y; steps = length q.steps } ∷ cs) (commits_of-append (iter + 1) place ys os x o (omega arith) (omega arith))
-
--- these commits are a serial run so far, with these items ready after them and these states
-pub record IsRunSoFar (op : Operator) (before : ℕ → State) (ready : List Item) (commits : List Commit) (left : List Item) (now : ℕ → State) : Type 0 where
+-- these commits are a run so far, with these items ready after them and these states
+pub record IsRunSoFar (op : Operator) (before : ℕ → State) (ready : List Item) (told : List Counted) (left : List Item) (now : ℕ → State) : Type 0 where
   pub outcomes : List Outcome
-  pub as_many : length commits ≡ length outcomes
-  pub run : IsSerialRun op before ready commits (record { states = now; ready = left; outcomes = outcomes })
+  pub run : IsLeastFirstRun op before ready told (record { states = now; ready = left; outcomes = outcomes })
 
-pub none_yet : (op : Operator) (before : ℕ → State) (ready left : List Item) (commits : List Commit) → commits ≡ [] → left ≡ ready → IsRunSoFar op before ready commits left before
+none_by : (op : Operator) (before : ℕ → State) (ready left : List Item) → left ≡ ready → serial op before ready [] ≡ Some (record { states = before; ready = left; outcomes = [] })
 unfolding serial
-none_yet op before ready left commits c e = record {
+none_by op before ready left e = λ i. Some (record { states = before; ready = sym e i; outcomes = [] })
+
+pub none_yet : (op : Operator) (before : ℕ → State) (ready left : List Item) (told : List Counted) → told ≡ [] → left ≡ ready → IsRunSoFar op before ready told left before
+none_yet op before ready left told c e = record {
   outcomes = [];
-  as_many = ap length c;
   run = record {
-    in_turn = λ i. serial op before (sym e i) (items_of (c i));
-    least = λ i. serial (least_first op) before (sym e i) (items_of (c i));
-    told = c ∙ ap (λ cs. commits_of 0 (items_of cs) []) (sym c);
+    commits = [];
+    serial_run = record { in_turn = none_by op before ready left e; recorded = refl };
+    least = none_by (least_first op) before ready left e;
+    one_worker = tt;
+    are_told = c;
   };
 }
+
+-- one turn
+one_turn : (op : Operator) (now after : ℕ → State) (left more : List Item) (item : Item) (o : Outcome) → may_commit op.ordered left item ≡ true → body (op.plan item) now ≡ record { outcome = o; states = after } → more ≡ ready_after left item o
+    → serial op now left (item ∷ []) ≡ Some (record { states = after; ready = more; outcomes = o ∷ [] })
+unfolding serial
+one_turn op now after left more item o m b e =
+    (λ i. if m i then with_first (b i).outcome (Some (record { states = (b i).states; ready = ready_after left item (b i).outcome; outcomes = [] })) else None)
+    ∙ ap (λ (xs : List Item). Some (record { states = after; ready = xs; outcomes = o ∷ [] })) (sym e)
 
 may_by : (ordered has least : Bool) → has ≡ true → least ≡ true → (has && (not ordered || least)) ≡ true
 may_by true has least h l = ap (λ b. b && least) h ∙ l
 may_by false has least h l = ap (λ b. b && true) h
 
--- how the states and the ready items are after a commit, by what its body is known to have done
-ended_as : (op : Operator) (item : Item) (ready others more : List Item) (now after : ℕ → State) (outcomes : List Outcome) (steps : ℕ) (pushes : List Item)
-    → others ≡ without_item ready item → HasRun (op.plan item) now steps pushes after → more ≡ with_items others pushes
-    → after_item op item (record { states = now; ready = ready; outcomes = outcomes }) ≡ record { states = after; ready = more; outcomes = outcomes ++ (body (op.plan item) now).outcome ∷ [] }
-unfolding without_items
-ended_as op item ready others more now after outcomes steps pushes o b m =
-    let kept : ready_after ready item (body (op.plan item) now).outcome ≡ more =
-    ap (λ xs. with_items (without_items (without_item ready item) xs) (body (op.plan item) now).outcome.pushes) (withdrawn_by-body (op.plan item) now)
-    ∙ (λ i. with_items (sym o i) (sym b.pushed i)) ∙ sym m in
-    λ i. record { states = sym b.states i; ready = kept i; outcomes = outcomes ++ (body (op.plan item) now).outcome ∷ [] }
+-- one more commit
+longer_by : (op : Operator) (before now after : ℕ → State) (ready left more : List Item) (commits : List Commit) (outcomes : List Outcome) (c : Commit)
+    → IsSerialRun op before ready commits (record { states = now; ready = left; outcomes = outcomes }) → serial op now left (c.item ∷ []) ≡ Some (record { states = after; ready = more; outcomes = c.outcome ∷ [] })
+    → IsSerialRun op before ready (commits ++ c ∷ []) (record { states = after; ready = more; outcomes = outcomes ++ c.outcome ∷ [] })
+longer_by op before now after ready left more commits outcomes c run turn =
+    let two : IsSerialRunInTwo op before ready commits (c ∷ []) (record { states = after; ready = more; outcomes = outcomes ++ c.outcome ∷ [] }) = record {
+      between = record { states = now; ready = left; outcomes = outcomes };
+      last = record { states = after; ready = more; outcomes = c.outcome ∷ [] };
+      first_run = run;
+      second_run = record { in_turn = turn; recorded = refl };
+      end = refl;
+    } in
+    IsSerialRun-append op before ready commits (c ∷ []) _ two
 
-items_of-append : (cs : List Commit) (c : Commit) → items_of (cs ++ c ∷ []) ≡ items_of cs ++ c.item ∷ []
-items_of-append cs c = map-append (λ (x : Commit). x.item) cs (c ∷ [])
+numbered-append : (worker iter : ℕ) (commits : List Commit) (c : Commit) → AreNumberedBy worker iter commits → c.worker ≡ worker → c.iter ≡ iter + length commits → AreNumberedBy worker iter (commits ++ c ∷ [])
+numbered-append worker iter [] c h w n = (w, omega (arith, n), tt)
+numbered-append worker iter (x ∷ xs) c h w n = (h.0, h.1, numbered-append worker (iter + 1) xs c h.2 w (omega (arith, n)))
 
 -- the least ready item commits
-pub commits_one : (op : Operator) (before now after : ℕ → State) (ready left others more : List Item) (commits longer : List Commit) (item : Item) (steps iter : ℕ) (pushes : List Item) → IsRunSoFar op before ready commits left now
-    → has_item left item ≡ true → is_least left item ≡ true → others ≡ without_item left item → HasRun (op.plan item) now steps pushes after → more ≡ with_items others pushes
-    → iter ≡ length commits → longer ≡ commits ++ record { worker = 0; iter = iter; item = item; steps = steps } ∷ [] → IsRunSoFar op before ready longer more after
-commits_one op before now after ready left others more commits longer item steps iter pushes r h l o b m n e =
-    let outcome = (body (op.plan item) now).outcome in
-    let end = ended_as op item left others more now after r.outcomes steps pushes o b m in
-    let items : items_of longer ≡ items_of commits ++ item ∷ [] = ap items_of e ∙ items_of-append commits (record { worker = 0; iter = iter; item = item; steps = steps }) in
-    let count : length (items_of commits) ≡ length commits = length-map commits _ in
+pub commits_one : (op : Operator) (before now after : ℕ → State) (ready left more : List Item) (told longer : List Counted) (item : Item) (steps iter : ℕ) (o : Outcome) → IsRunSoFar op before ready told left now
+    → has_item left item ≡ true → is_least left item ≡ true → body (op.plan item) now ≡ record { outcome = o; states = after } → more ≡ ready_after left item o
+    → iter ≡ length told → steps ≡ length o.steps → longer ≡ told ++ record { worker = 0; iter = iter; item = item; steps = steps } ∷ [] → IsRunSoFar op before ready longer more after
+commits_one op before now after ready left more told longer item steps iter o r h l b m n s e =
+    let c : Commit = record { worker = 0; iter = iter; item = item; outcome = o } in
+    let first : IsSerialRun (least_first op) before ready r.run.commits (record { states = now; ready = left; outcomes = r.outcomes }) = record { in_turn = r.run.least; recorded = r.run.serial_run.recorded } in
+    let least : IsSerialRun (least_first op) before ready (r.run.commits ++ c ∷ []) (record { states = after; ready = more; outcomes = r.outcomes ++ o ∷ [] }) =
+    longer_by (least_first op) before now after ready left more r.run.commits r.outcomes c first (one_turn (least_first op) now after left more item o (may_by true (has_item left item) (is_least left item) h l) b m) in
+    let many : length told ≡ length r.run.commits = ap length r.run.are_told ∙ length-map r.run.commits counted in
     record {
-      outcomes = r.outcomes ++ outcome ∷ [];
-      as_many = ap length e ∙ omega (arith, r.as_many, length-append commits (record { worker = 0; iter = iter; item = item; steps = steps } ∷ []), length-append r.outcomes (outcome ∷ []));
+      outcomes = r.outcomes ++ o ∷ [];
       run = record {
-        in_turn = ap (serial op before ready) items ∙ one_more op (items_of commits) item before ready _ r.run.in_turn (may_by op.ordered (has_item left item) (is_least left item) h l) ∙ ap Some end;
-        least = ap (serial (least_first op) before ready) items ∙ one_more (least_first op) (items_of commits) item before ready _ r.run.least (may_by true (has_item left item) (is_least left item) h l) ∙ ap Some end;
-        told =
-            e ∙ (λ i. r.run.told i ++ record { worker = 0; iter = iter; item = item; steps = b.counted i } ∷ [])
-            ∙ sym (commits_of-append 0 iter (items_of commits) r.outcomes item outcome (omega (arith, count, r.as_many)) (omega (arith, count, n)))
-            ∙ ap (λ xs. commits_of 0 xs (r.outcomes ++ outcome ∷ [])) (sym items);
+        commits = r.run.commits ++ c ∷ [];
+        serial_run = longer_by op before now after ready left more r.run.commits r.outcomes c r.run.serial_run (one_turn op now after left more item o (may_by op.ordered (has_item left item) (is_least left item) h l) b m);
+        least = least.in_turn;
+        one_worker = numbered-append 0 0 r.run.commits c r.run.one_worker refl (omega (arith, n, many));
+        are_told = e ∙ (λ i. r.run.are_told i ++ record { worker = 0; iter = iter; item = item; steps = s i } ∷ []) ∙ sym (map-append counted r.run.commits (c ∷ []));
       };
     }
 
-pub whole_of : (op : Operator) (before now : ℕ → State) (ready left : List Item) (commits : List Commit) → IsRunSoFar op before ready commits left now → length commits ≤ most_commits → left ≡ [] → IsWholeRun op before ready commits now
-whole_of op before now ready left commits r w e = record {
+pub whole_of : (op : Operator) (before now : ℕ → State) (ready left : List Item) (told : List Counted) → IsRunSoFar op before ready told left now → length told ≤ most_commits → left ≡ [] → IsWholeRun op before ready told now
+whole_of op before now ready left told r w e = record {
   outcomes = r.outcomes;
   within = w;
-  run = subst (λ (xs : List Item). IsSerialRun op before ready commits (record { states = now; ready = xs; outcomes = r.outcomes })) e r.run;
+  run = subst (λ (xs : List Item). IsLeastFirstRun op before ready told (record { states = now; ready = xs; outcomes = r.outcomes })) e r.run;
 }
 
-pub unfinished_of : (op : Operator) (before now : ℕ → State) (ready left others : List Item) (commits : List Commit) (item : Item) → IsRunSoFar op before ready commits left now → length commits ≡ most_commits → left ≡ item ∷ others → IsUnfinished op before ready now
-unfinished_of op before now ready left others commits item r f e = record {
-  commits = commits;
+-- where an item is ready, some are
+ready_by : (left : List Item) (item : Item) → has_item left item ≡ true → left ≡ [] → ⊥
+unfolding has_item
+ready_by [] item h e = absurd (cc)
+ready_by (x ∷ xs) item h e = absurd (cc)
+
+pub unfinished_of : (op : Operator) (before now : ℕ → State) (ready left : List Item) (told : List Counted) (item : Item) → IsRunSoFar op before ready told left now → length told ≡ most_commits → has_item left item ≡ true → IsUnfinished op before ready now
+unfinished_of op before now ready left told item r f h = record {
+  told = told;
   ended = record { states = now; ready = left; outcomes = r.outcomes };
   run = r.run;
   full = f;
   states = refl;
-  ready_still = λ (n : left ≡ []). let k : item ∷ others ≡ [] = sym e ∙ n in absurd (cc);
+  ready_still = ready_by left item h;
 }

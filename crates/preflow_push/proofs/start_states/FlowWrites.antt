@@ -9,9 +9,9 @@ use Rattle.std.specs.FinMap as finite
 use Rattle.gx_base.specs.declared.calls.Call.{Call}
 use Rattle.gx_base.specs.States.{State, row_cmp, first_or_zero, number_at, with_number}
 use Rattle.gx_base.specs.Steps.{next_state, meaning_of}
-use Rattle.gx_base.specs.Deeds.{use_of, next_by}
-use Rattle.gx_base.specs.Wrapping.{below_bits}
-use Rattle.gx_base.specs.Registers.{same_row, same_row-sort, number_at-other}
+use Rattle.gx_base.specs.FlowKind.{flow_use}
+use Rattle.gx_base.specs.RegisterDeeds.{next_by}
+use Rattle.gx_base.proofs.CallerLemmas.{below_bits, same_row, same_row-sort, number_at-other}
 use Rattle.gx_base.specs.Replays.{in_rooms, put}
 use Rattle.flow_graph.specs.declared.shard.FlowShard.{FlowShard}
 use Rattle.flow_graph.specs.FlowState.{state_of}
@@ -38,12 +38,12 @@ kind_in [] room lt = absurd (omega arith)
 kind_in (x ∷ xs) zero lt = refl
 kind_in (x ∷ xs) (suc n) lt = kind_in xs n (omega arith)
 
-next_on : (s : State) (c : Call) → s.kind ≡ 2 → next_state s c ≡ next_by (use_of 2 c.method) s c
+next_on : (s : State) (c : Call) → s.kind ≡ 2 → next_state s c ≡ next_by (flow_use c.method) s c
 unfolding next_state
 next_on s c e = ap (λ (k : ℕ). (meaning_of k).next s c) e
 
 next_in : (shards : List FlowShard) (method : ℕ) (n x : ℤ) → length shards ≡ rooms
-    → put (rooms_of shards) (room_of n) (next_state (rooms_of shards (room_of n)) (call_of method n x)) ≡ put (rooms_of shards) (room_of n) (next_by (use_of 2 method) (rooms_of shards (room_of n)) (call_of method n x))
+    → put (rooms_of shards) (room_of n) (next_state (rooms_of shards (room_of n)) (call_of method n x)) ≡ put (rooms_of shards) (room_of n) (next_by (flow_use method) (rooms_of shards (room_of n)) (call_of method n x))
 next_in shards method n x e =
     let below = room_of-lt n in
     let lt : room_of n < length shards = omega arith in

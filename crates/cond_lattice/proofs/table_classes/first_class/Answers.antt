@@ -2,7 +2,7 @@ use Rattle.std.proofs.Common.{sym}
 use Rattle.gx_base.specs.Kinds.{kind_number}
 use Rattle.gx_base.specs.Methods.{methods_of}
 use Rattle.gx_base.specs.TableRows.{row_of}
-use Rattle.gx_base.proofs.MethodPlaces.{methods_from}
+use Rattle.gx_base.proofs.CallerLemmas.{methods_from}
 use Rattle.cond_lattice.specs.Grades.{grade_of}
 use Rattle.cond_lattice.proofs.TableLemmas.{one_more_class}
 use Rattle.cond_lattice.proofs.table_classes.first_class.Goals as goal

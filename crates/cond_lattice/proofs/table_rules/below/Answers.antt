@@ -2,7 +2,7 @@ use Rattle.std.proofs.Common.{◌≡◌, ℕ, true, sym}
 use Rattle.gx_base.specs.Kinds.{kind_number}
 use Rattle.gx_base.specs.Methods.{is_method}
 use Rattle.gx_base.specs.TableRows.{row_of}
-use Rattle.gx_base.proofs.MethodPlaces.{one_more, all_methods}
+use Rattle.gx_base.proofs.CallerLemmas.{one_more, all_methods}
 use Rattle.cond_lattice.specs.Derivations.{IsRowBelow}
 use Rattle.cond_lattice.proofs.Derived.{IsRowBelow-sound}
 use Rattle.cond_lattice.proofs.TableLemmas.{rows_sound}

@@ -1,4 +1,4 @@
-use Rattle.gx_base.specs.Laws.{undoes}
+use Rattle.gx_base.proofs.CallerLemmas.{undoes}
 use Rattle.flow_graph.proofs.laws.calls_are_undone.Goals as goal
 
 pub returns : goal.returns

@@ -3,7 +3,7 @@ use Rattle.gx_base.specs.declared.calls.Call.{Call}
 use Rattle.gx_base.specs.declared.calls.Reply.{Reply}
 use Rattle.gx_base.specs.States.{State}
 use Rattle.gx_base.specs.Steps.{next_state, reply_to, inverse, IsState, IsCall}
-use Rattle.gx_base.specs.Laws.{undoes}
+use Rattle.gx_base.proofs.CallerLemmas.{undoes}
 use Rattle.flow_graph.proofs.tests.done_again.Goals as goal
 
 -- a call that was made and taken back leaves the state before it

@@ -2,7 +2,7 @@ use Rattle.std.proofs.Common.{sym}
 use Rattle.gx_base.specs.Kinds.{kind_number}
 use Rattle.gx_base.specs.Methods.{methods_of}
 use Rattle.gx_base.specs.TableRows.{row_of}
-use Rattle.gx_base.proofs.MethodPlaces.{methods_from}
+use Rattle.gx_base.proofs.CallerLemmas.{methods_from}
 use Rattle.galois_run.specs.Classifying.{first_lines}
 use Rattle.cond_text.proofs.PrintedRows.{one_more_piece}
 use Rattle.galois_run.proofs.classifying.classify.Goals as goal

@@ -1,5 +1,5 @@
 use Rattle.std.proofs.Common.{◌∙◌}
-use Rattle.gx_base.proofs.MethodSearch.{find-methods}
+use Rattle.gx_base.proofs.methods.MethodSearch.{find-methods}
 use Rattle.gx_base.proofs.kinds.method_of.Goals as goal
 
 pub returns : goal.returns

@@ -1,4 +1,4 @@
-use Rattle.gx_base.specs.Laws.{below-IsValid}
+use Rattle.gx_base.proofs.table_lemmas.BelowLaws.{below-IsValid}
 use Rattle.gx_base.proofs.laws.below_valid_is_valid.Goals as goal
 
 pub returns : goal.returns

@@ -1,4 +1,4 @@
-use Rattle.gx_base.specs.BodyLaws.{body-Replays}
+use Rattle.gx_base.proofs.bodies.BodyReplays.{body-Replays}
 use Rattle.gx_base.proofs.laws.bodies_replay.Goals as goal
 
 pub returns : goal.returns

@@ -1,4 +1,4 @@
-use Rattle.gx_base.specs.Laws.{undoes}
+use Rattle.gx_base.proofs.object_kinds.KnownLaws.{undoes}
 use Rattle.gx_base.proofs.laws.inverse_undoes.Goals as goal
 
 pub returns : goal.returns

@@ -1,4 +1,4 @@
-use Rattle.gx_base.specs.ForeignMethods.{flow_use-foreign}
+use Rattle.gx_base.proofs.CallerLemmas.{flow_use-foreign}
 use Rattle.flow_graph.proofs.shard.FlowShardSeqType.roomed.Goals as goal
 
 pub returns-in-Adds-clause-foreign : goal.returns-in-Adds-clause-foreign

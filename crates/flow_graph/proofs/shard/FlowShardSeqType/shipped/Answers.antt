@@ -3,7 +3,7 @@ use Rattle.gx_base.specs.declared.kinds.Kind.{Kind}
 use Rattle.gx_base.specs.declared.kinds.Kind.TheVariants.{Set, Cells, Flow, Points, Domains}
 use Rattle.gx_base.specs.ShippedTables.{rows_shipped}
 use Rattle.gx_base.specs.TableRows.{row_of}
-use Rattle.gx_base.specs.TableRowLaws.{row_of-empty}
+use Rattle.gx_base.proofs.CallerLemmas.{row_of-empty}
 use Rattle.flow_graph.specs.FlowState.{holds_flow}
 use Rattle.flow_graph.proofs.shard.FlowShardSeqType.shipped.Goals as goal
 

@@ -1,6 +1,6 @@
 use Rattle.std.proofs.Common.{◌∙◌, ap}
 use Rattle.gx_base.specs.TableRows.{RowMap, row_of}
-use Rattle.gx_base.specs.TableRowLaws.{row_of-empty}
+use Rattle.gx_base.proofs.CallerLemmas.{row_of-empty}
 use Rattle.gate_core.proofs.tests.MeagreSeqType.shipped.Goals as goal
 
 pub returns : goal.returns

@@ -4,7 +4,7 @@ use Rattle.gx_base.specs.declared.tables.Row.{Row}
 use Rattle.gx_base.specs.Conditions.{condition_of}
 use Rattle.gx_base.specs.TableRows.{RowMap, row_of}
 use Rattle.gx_base.specs.RowLists.{is_row_of}
-use Rattle.gx_base.proofs.RowPlaces.{found_at, row_of-found, row_of-missed, is_false-is}
+use Rattle.gx_base.proofs.table_lemmas.RowPlaces.{found_at, row_of-found, row_of-missed, is_false-is}
 use Rattle.gx_base.proofs.tables.Table.row.Goals as goal
 
 pub index-requires : goal.index-requires

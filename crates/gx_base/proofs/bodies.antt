@@ -1,0 +1,2 @@
+pub mod BodyReplays
+pub mod ReplyRuns

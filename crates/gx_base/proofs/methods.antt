@@ -1,0 +1,2 @@
+pub mod MethodPlaces
+pub mod MethodSearch

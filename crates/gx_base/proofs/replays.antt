@@ -1,0 +1,2 @@
+pub mod CallReplays
+pub mod RoomReplays

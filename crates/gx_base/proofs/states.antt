@@ -1,0 +1,4 @@
+pub mod Registers
+pub mod StateRows
+pub mod Wrapping
+pub mod RowActionLaws

@@ -1,0 +1,3 @@
+pub mod TableRowLaws
+pub mod RowPlaces
+pub mod BelowLaws

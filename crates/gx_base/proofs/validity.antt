@@ -1,0 +1,10 @@
+pub mod Swapping
+pub mod RowActionSwaps
+pub mod KindLaws
+pub mod SetTable
+pub mod RegisterTable
+pub mod Nearest
+pub mod PointTable
+pub mod DomainTable
+pub mod Laws
+pub mod ShippedLaws
