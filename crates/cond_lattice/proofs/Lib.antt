@@ -1,11 +1,5 @@
-pub mod SameLemmas
-pub mod Derived
-pub mod RowSteps
-pub mod TurnedLaws
-pub mod RowLists
-pub mod RowRoom
-pub mod Standing
-pub mod Implied
-pub mod GradeLemmas
-pub mod Bounds
-pub mod TableLemmas
+pub mod order
+pub mod answer_rows
+pub mod bounds
+pub mod tables
+pub mod CallerLemmas

@@ -4,13 +4,13 @@ use Rattle.gx_base.specs.declared.conditions.Side.{Side}
 use Rattle.gx_base.specs.declared.conditions.Side.TheVariants.{First, Second}
 use Rattle.gx_base.specs.Conditions.{Condition, True, False, And, Or}
 use Rattle.gx_base.specs.Below.{names_state}
-use Rattle.cond_lattice.specs.Same.{same_condition}
+use Rattle.cond_lattice.specs.Same.{Same, same_condition}
 
 -- a derivation that the first condition is below the second, one constructor for each rule
 pub data Derivation : Condition → Condition → Type 0 where
   lower_false : {d : Condition} → Derivation False d
   upper_true : {c : Condition} → Derivation c True
-  same : {c d : Condition} → same_condition c d ≡ true → Derivation c d
+  same : {c d : Condition} → Same c d → Derivation c d
   lower_or : {a b d : Condition} → Derivation a d → Derivation b d → Derivation (Or a b) d
   upper_and : {c a b : Condition} → Derivation c a → Derivation c b → Derivation c (And a b)
   lower_and_left : {a b d : Condition} → Derivation a d → Derivation (And a b) d

@@ -1,11 +1,11 @@
 -- The classes of conditions.
-use Rattle.std.specs.Prelude.{ℕ, Bool, true, false, ◌&&◌, List, [], ◌∷◌, map, if◌then◌else◌}
+use Rattle.std.specs.Prelude.{◌≡◌, ℕ, ◌≤◌, Bool, true, false, ◌&&◌, List, [], ◌∷◌, map, if◌then◌else◌}
 use Rattle.gx_base.specs.declared.conditions.Side.TheVariants.{First, Second}
 use Rattle.gx_base.specs.declared.conditions.Term.{Term}
 use Rattle.gx_base.specs.declared.conditions.Term.TheVariants.{Value}
 use Rattle.gx_base.specs.Conditions.{Condition, True, False, Ne, And}
 use Rattle.gx_base.specs.Below.{names_state}
-use Rattle.gx_base.specs.Methods.{methods_of}
+use Rattle.gx_base.specs.Methods.{is_method, methods_of}
 use Rattle.gx_base.specs.Tables.{Rows}
 use Rattle.cond_lattice.specs.declared.grades.Grade.{Grade}
 use Rattle.cond_lattice.specs.declared.grades.Grade.TheVariants.{Simple, Online, General}
@@ -48,3 +48,26 @@ first_grade kind rows first = greatest (map (λ second. grade_of (rows first sec
 -- the greatest class of a table's rows, over the pairs of methods of a kind
 abbrev pub table_grade : ℕ → Rows → Grade
 table_grade kind rows = greatest (map (first_grade kind rows) (methods_of kind))
+
+-- the place of a class in their rising order
+abbrev pub rank : Grade → ℕ
+rank Simple = 0
+rank Online = 1
+rank General = 2
+
+-- some row of the kind's methods is of this class
+pub record HasRowOf (kind : ℕ) (rows : Rows) (grade : Grade) : Type 0 where
+  pub first : ℕ
+  pub second : ℕ
+  pub first_method : is_method kind first ≡ true
+  pub second_method : is_method kind second ≡ true
+  pub class : grade_of (rows first second) ≡ grade
+
+-- no row of the kind's methods is of a greater class, and some row is of this one
+pub record IsGreatestClass (kind : ℕ) (rows : Rows) (grade : Grade) : Type 0 where
+  pub none_greater : (first second : ℕ) → is_method kind first ≡ true → is_method kind second ≡ true → rank (grade_of (rows first second)) ≤ rank grade
+  pub reached : HasRowOf kind rows grade
+
+-- each row of the kind's methods is simple
+abbrev pub AreSimple : ℕ → Rows → Type 0
+AreSimple kind rows = (first second : ℕ) → is_method kind first ≡ true → is_method kind second ≡ true → is_simple (rows first second) ≡ true

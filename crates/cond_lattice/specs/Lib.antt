@@ -1,6 +1,6 @@
 pub mod Grades
 pub mod Same
 pub mod Derivations
-pub mod Rows
+pub mod AnswerRows
 pub mod Simple
 pub mod Tables

@@ -8,6 +8,15 @@ use Rattle.gx_base.specs.declared.conditions.Term.TheVariants.{Const, Value, Bey
 use Rattle.gx_base.specs.Conditions.{Condition, True, False, Eq, Ne, Lt, Le, And, Or, Not}
 use Rattle.gx_base.specs.Below.{same_side}
 
+-- two conditions are equal, but that equations and inequalities in them may have their sides exchanged
+pub data Same : Condition → Condition → Type 0 where
+  equal : {c : Condition} → Same c c
+  equation : {x y : Term} → Same (Eq x y) (Eq y x)
+  inequality : {x y : Term} → Same (Ne x y) (Ne y x)
+  in_and : {a b c d : Condition} → Same a c → Same b d → Same (And a b) (And c d)
+  in_or : {a b c d : Condition} → Same a c → Same b d → Same (Or a b) (Or c d)
+  in_not : {a c : Condition} → Same a c → Same (Not a) (Not c)
+
 abbrev pub same_part : Part → Part → Bool
 same_part ArgFirst ArgFirst = true
 same_part ArgSecond ArgSecond = true
@@ -26,6 +35,7 @@ same_term _ _ = false
 abbrev pub same_sides : Term → Term → Term → Term → Bool
 same_sides x y u v = (same_term x u && same_term y v) || (same_term x v && same_term y u)
 
+-- whether two conditions are the same; that they are exactly where this says so is proved
 abbrev pub same_condition : Condition → Condition → Bool
 same_condition True True = true
 same_condition False False = true

@@ -6,10 +6,11 @@
 //! say of whole tables.
 #![tactic(auto)]
 
+mod answers;
 mod classes;
 mod decisions;
 mod grades;
-mod rows;
+pub mod laws;
 mod rules;
 mod same;
 mod simple;

@@ -11,13 +11,10 @@ use gx_base::{Cond, Side};
 /// Whether a row is below another by the rules: a derivation exists, and each state function that the
 /// first row names stands in the second.
 ///
-/// No memory is taken, but for stack: answers are kept there, a KiB of them for conditions as tables have
-/// them, and 5 MiB at most. Where c has n parts and d has m, it takes n * m steps, since each pair of parts
-/// is looked at once; before, both are walked through, and c again for each level of its depth. Where each
-/// has more than some 200,000 parts, answers are kept for the large parts of one of them alone, and it takes
-/// n * m steps times the depths of both. A `not` is one part, and is compared as a whole. Measured, with
-/// conditions at most 64 deep: the costliest of some thousand parts, alternating full trees of 2,047, took
-/// 0.07 s, and combs of combs of combs of 18,521 parts 7 s, which is 20 ns a pair (`docs/DECISIONS.md`).
+/// No memory is taken, but for stack: a KiB for conditions as tables have them, and 4 MiB at most. Where c has
+/// n parts and d has m, it takes n * m steps as long as at most log2(n) + 1 rows of m answers fit there, so up
+/// to some 200,000 parts on either side. Beyond that the plain rules are tried one by one until the parts left
+/// are so small, which may meet one pair of parts along many ways.
 pub fn row_below(c: &Cond, d: &Cond) -> bool
     ensures rules { IsTrue result ↔ IsRowBelow (condition_of c.now) (condition_of d.now) }
     ensures sound { IsTrue result → IsBelow (condition_of c.now) (condition_of d.now) }

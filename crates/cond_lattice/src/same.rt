@@ -1,7 +1,7 @@
-ghost use Rattle.std.specs.Prelude.{◌≡◌};
+ghost use Rattle.std.specs.Prelude.{◌≡◌, ◌↔◌, IsTrue};
 ghost use Rattle.gx_base.specs.Conditions.{condition_of};
 ghost use Rattle.gx_base.specs.Below.{same_side};
-ghost use Rattle.cond_lattice.specs.Same.{same_part, same_term, same_sides, same_condition};
+ghost use Rattle.cond_lattice.specs.Same.{Same, same_part, same_term, same_sides, same_condition};
 
 use gx_base::{Cond, Part, Side, Term};
 
@@ -48,8 +48,10 @@ pub(crate) fn same_sides(x: Term, y: Term, u: Term, v: Term) -> bool
 }
 
 /// Whether two conditions are the same but for the sides of their equations and inequalities.
+#[tactic(auto, using(crate::proofs::order::Sameness::same_exactly))]
 pub(crate) fn same_condition(c: &Cond, d: &Cond) -> bool
-    ensures { result ≡ same_condition (condition_of c.now) (condition_of d.now) }
+    ensures rule { result ≡ same_condition (condition_of c.now) (condition_of d.now) }
+    ensures same { IsTrue result ↔ Same (condition_of c.now) (condition_of d.now) }
 {
     match (c, d) {
         (Cond::True, Cond::True) | (Cond::False, Cond::False) => true,

@@ -10,7 +10,7 @@ use crate::same::same_sides;
 use gx_base::{Cond, NoMemory, Term};
 use std::alloc::Global;
 
-fn is_true(cond: &Cond) -> bool
+pub(crate) fn is_true(cond: &Cond) -> bool
     ensures { result ≡ order.is_true (condition_of cond.now) }
 {
     match cond {
@@ -19,7 +19,7 @@ fn is_true(cond: &Cond) -> bool
     }
 }
 
-fn is_false(cond: &Cond) -> bool
+pub(crate) fn is_false(cond: &Cond) -> bool
     ensures { result ≡ is_false (condition_of cond.now) }
 {
     match cond {

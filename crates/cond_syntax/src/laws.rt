@@ -9,31 +9,14 @@ ghost use Rattle.gx_base.specs.Tables.{Rows};
 ghost use Rattle.cond_syntax.specs.Tokens.{Token, tokens_of};
 ghost use Rattle.cond_syntax.specs.Written.{Written, condition_in};
 ghost use Rattle.cond_syntax.specs.Grammar.{IsCondition};
-ghost use Rattle.cond_syntax.specs.Fronts.{is_cut, IsOfForm, all_known};
-ghost use Rattle.cond_syntax.specs.Machine.{Wrong, Cut, Whole, reading_of};
+ghost use Rattle.cond_syntax.specs.Fronts.{all_known};
 ghost use Rattle.cond_syntax.specs.TableTexts.{Spells, IsTableText, Fault, IsFirstFault};
 ghost use Rattle.cond_syntax.specs.Printing.{condition_text, table_text};
 ghost use Rattle.cond_syntax.specs.Printable.{IsPrintable, IsPrintableTable, IsReadBack};
 
-/// Reading from token to token finds the condition that the grammar spells, and no other.
-pub fn conditions_are_read_as_spelled()
-    ensures { (ts : List Token) (c : Written) → is_cut ts ≡ false → (reading_of ts ≡ Whole c) ↔ IsCondition ts [] c }
-{}
-
 /// Tokens spell one condition at most.
 pub fn tokens_spell_one_condition()
     ensures { (ts : List Token) (c d : Written) → IsCondition ts [] c → IsCondition ts [] d → c ≡ d }
-{}
-
-/// Reading finds nothing wrong exactly where the tokens have the form of a condition.
-pub fn forms_are_not_wrong()
-    ensures { (ts : List Token) → IsOfForm ts ↔ (reading_of ts ≡ Wrong → ⊥) }
-{}
-
-/// Reading comes to its end unless more parentheses are open than may be.
-pub fn only_deep_conditions_are_cut()
-    ensures cut { (ts : List Token) → reading_of ts ≡ Cut → is_cut ts ≡ true }
-    ensures whole { (ts : List Token) (c : Written) → reading_of ts ≡ Whole c → is_cut ts ≡ false }
 {}
 
 /// A spelled condition has a meaning for a kind exactly where each word of its tokens is known there.

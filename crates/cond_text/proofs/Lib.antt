@@ -1,13 +1,4 @@
-pub mod ConditionLaws
-pub mod DraftLaws
-pub mod LevelLaws
-pub mod LineSteps
-pub mod MethodNames
-pub mod OneAnswer
-pub mod PairLaws
-pub mod PieceLaws
-pub mod PrintedRows
-pub mod ReaderLaws
-pub mod RowFaults
-pub mod SourceLaws
-pub mod TokenLaws
+pub mod CallerLemmas
+pub mod methods
+pub mod reading
+pub mod texts

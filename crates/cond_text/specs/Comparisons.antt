@@ -3,7 +3,7 @@ use Rattle.std.specs.Prelude.{Option, Some, None, List}
 use Rattle.cond_syntax.specs.Tokens as plain
 use Rattle.cond_syntax.specs.Written.{WrittenTerm, Fixed, Named, Far, IsEqual, IsOther, IsLess, IsAtMost, Written, Compare}
 use Rattle.cond_syntax.specs.Written as written
-use Rattle.cond_syntax.specs.Machine.{Frame, Due, State, OpenDue, term_done}
+use Rattle.cond_text.specs.Machine.{Frame, Due, State, OpenDue, term_done}
 use Rattle.cond_text.specs.declared.terms.Spelled.{Spelled}
 use Rattle.cond_text.specs.declared.terms.Spelled.TheVariants.{Number, Word, Beyond}
 use Rattle.cond_text.specs.declared.terms.Relation.{Relation}

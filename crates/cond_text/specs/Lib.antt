@@ -6,6 +6,7 @@ pub mod Found
 pub mod Levels
 pub mod LineAnswers
 pub mod LineForms
+pub mod Machine
 pub mod Pairs
 pub mod Readers
 pub mod Sources

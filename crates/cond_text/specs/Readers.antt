@@ -2,8 +2,8 @@
 use Rattle.std.specs.Prelude.{◌≡◌, ℕ, List, [], ◌∷◌, reverse, Option, Some, None, Result, Ok, Err}
 use Rattle.gx_base.specs.Kinds.{kind_number}
 use Rattle.cond_syntax.specs.Written.{Written, True, False}
-use Rattle.cond_syntax.specs.Machine as machine
-use Rattle.cond_syntax.specs.Machine.{Frame, State, Operand, Whole, First, unit_done}
+use Rattle.cond_text.specs.Machine as machine
+use Rattle.cond_text.specs.Machine.{Frame, State, Operand, Whole, First, unit_done}
 use Rattle.cond_text.specs.Comparisons.{term_begun}
 use Rattle.cond_syntax.specs.Tokens.{Token, TrueKey, FalseKey}
 use Rattle.cond_text.specs.Drafts.{IsDraft}

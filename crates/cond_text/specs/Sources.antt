@@ -5,8 +5,8 @@ use Rattle.gx_base.specs.Kinds.{kind_number}
 use Rattle.cond_syntax.specs.Tokens as plain
 use Rattle.cond_syntax.specs.Tokens.{tokens_of}
 use Rattle.cond_syntax.specs.Fronts.{front_from, is_cut_from, all_known}
-use Rattle.cond_syntax.specs.Machine as machine
-use Rattle.cond_syntax.specs.Machine.{State, Reading, run, ended, step, whole, whole_or_wrong}
+use Rattle.cond_text.specs.Machine as machine
+use Rattle.cond_text.specs.Machine.{State, Reading, run, ended, step, whole, whole_or_wrong}
 use Rattle.cond_text.specs.CodeTokens.{token_seen}
 use Rattle.cond_text.specs.declared.tokens.Token.{Token}
 use Rattle.cond_text.specs.declared.sources.Source.{Source}

@@ -13,7 +13,7 @@ use gx_base::{Cond, Kind, NoMemory};
 use std::alloc::Global;
 
 /// What the tokens of a row's condition come to.
-#[derive(Debug, Drop)]
+#[derive(Drop)]
 pub(crate) enum Found {
     /// They have not the form of a condition.
     Malformed,
@@ -47,6 +47,3 @@ fn answer(draft: Draft, all_known: bool) -> Found
         Draft::Lost => Found::UnknownWord,
     }
 }
-
-#[cfg(test)]
-mod tests;

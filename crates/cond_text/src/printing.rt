@@ -49,7 +49,7 @@ fn put_type_line(text: &mut String, kind: Kind) -> Result<(), AllocError>
     text.push_str("\n")
 }
 
-#[tactic(auto, using(gx_base::proofs::CallerLemmas::methods_end, gx_base::proofs::CallerLemmas::place_below, crate::proofs::PrintedRows::all_pieces))]
+#[tactic(auto, using(gx_base::proofs::CallerLemmas::methods_end, gx_base::proofs::CallerLemmas::place_below, crate::proofs::methods::PrintedRows::all_pieces))]
 fn put_rows(text: &mut String, kind: Kind, table: &Table) -> Result<(), AllocError>
     ensures { OnOk result (string_bytes text.new ≡ string_bytes text.old ++ flat_map (first_lines kind (row_of table.now)) (methods_of (kind_number kind))) }
 {
@@ -62,7 +62,7 @@ fn put_rows(text: &mut String, kind: Kind, table: &Table) -> Result<(), AllocErr
 }
 
 /// The rows with this method first.
-#[tactic(auto, using(gx_base::proofs::CallerLemmas::methods_end, gx_base::proofs::CallerLemmas::place_below, crate::proofs::PrintedRows::all_pieces))]
+#[tactic(auto, using(gx_base::proofs::CallerLemmas::methods_end, gx_base::proofs::CallerLemmas::place_below, crate::proofs::methods::PrintedRows::all_pieces))]
 fn put_rows_of(text: &mut String, kind: Kind, table: &Table, first: u32) -> Result<(), AllocError>
     ensures { OnOk result (string_bytes text.new ≡ string_bytes text.old ++ first_lines kind (row_of table.now) first) }
 {

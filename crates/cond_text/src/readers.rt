@@ -3,8 +3,8 @@
 ghost use Rattle.std.specs.Prelude.{ℕ, List, ◌∷◌, [], Option, reverse, IfOk};
 ghost use Rattle.gx_base.specs.Kinds.{kind_number};
 ghost use Rattle.cond_syntax.specs.Written.{Written};
-ghost use Rattle.cond_syntax.specs.Machine as machine;
-ghost use Rattle.cond_syntax.specs.Machine.{State, Frame, Operand, step, unit_done, close_read, whole};
+ghost use Rattle.cond_text.specs.Machine as machine;
+ghost use Rattle.cond_text.specs.Machine.{State, Frame, Operand, step, unit_done, close_read, whole};
 ghost use Rattle.cond_text.specs.CodeTokens.{token_seen};
 ghost use Rattle.cond_text.specs.Drafts.{IsDraft};
 ghost use Rattle.cond_text.specs.Levels.{IsLevel, IsConjunction};

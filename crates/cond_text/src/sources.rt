@@ -37,7 +37,7 @@ pub(crate) enum Next<'a> {
 }
 
 /// Why reading ends before a condition is whole.
-#[derive(Clone, Copy, Debug, PartialEq, Eq, Drop)]
+#[derive(Clone, Copy, Drop)]
 pub(crate) enum Stop {
     /// What is read can't stand there.
     Wrong,
@@ -95,7 +95,7 @@ impl<'a> Source<'a> {
     ghost use Rattle.std.specs.Prelude.{ℕ, List};
     ghost use Rattle.gx_base.specs.Kinds.{kind_number};
     ghost use Rattle.cond_syntax.specs.Tokens as plain;
-    ghost use Rattle.cond_syntax.specs.Machine.{State, step, open_read, word_read, comma_read, close_due, whole};
+    ghost use Rattle.cond_text.specs.Machine.{State, step, open_read, word_read, comma_read, close_due, whole};
     ghost use Rattle.cond_text.specs.Sources.{IsStart, IsNext, IsLater, IsStopped, LeadsToken, Leads};
 
     /// The tokens of a text whose words are those of a kind's conditions.

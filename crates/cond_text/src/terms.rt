@@ -3,8 +3,8 @@
 ghost use Rattle.std.specs.Prelude.{◌≡◌, List, Some};
 ghost use Rattle.gx_base.specs.Kinds.{kind_number};
 ghost use Rattle.cond_syntax.specs.Written.{WrittenTerm, term_of};
-ghost use Rattle.cond_syntax.specs.Machine as machine;
-ghost use Rattle.cond_syntax.specs.Machine.{Frame, Due, OpenDue, OperatorDue, TermDue, term_done, unit_done};
+ghost use Rattle.cond_text.specs.Machine as machine;
+ghost use Rattle.cond_text.specs.Machine.{Frame, Due, OpenDue, OperatorDue, TermDue, term_done, unit_done};
 ghost use Rattle.cond_text.specs.CodeTokens.{token_seen};
 ghost use Rattle.cond_text.specs.Comparisons.{term_spelled, relation_spelled, comparison_spelled, term_begun};
 ghost use Rattle.cond_text.specs.Drafts.{IsDraft};

@@ -12,7 +12,7 @@ ghost use Rattle.cond_text.specs.CodeTokens.{token_seen};
 use text_lines::{is_blank, number};
 
 /// A token of a line.
-#[derive(Clone, Copy, Debug, PartialEq, Eq, Drop)]
+#[derive(Clone, Copy, Drop)]
 pub enum Token<'a> {
     /// A letter, and then letters and digits, that are no key word.
     Word(&'a [u8]),
@@ -189,6 +189,3 @@ fn sign_token(sign: &[u8]) -> Token<'_>
         Token::Odd
     }
 }
-
-#[cfg(test)]
-mod tests;

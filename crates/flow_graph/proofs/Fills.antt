@@ -2,17 +2,10 @@
 use Rattle.std.proofs.Common.{◌≡◌, ℕ, ◌+◌, ◌<◌, ◌≤◌, Bool, true, false, ◌||◌, ◌&&◌, ◌==◌, if◌then◌else◌, sym, ◌∙◌, ap, refl, arith}
 use Rattle.std.proofs.lemmas.Bool.Decides.{nat_tests}
 use Rattle.std.specs.FinMap as map
-use Rattle.gx_base.specs.declared.kinds.Kind.TheVariants.{Flow}
-use Rattle.gx_base.specs.declared.kinds.Choice.{Choice}
-use Rattle.gx_base.specs.declared.kinds.Choice.TheVariants.{Precise, Simple, Rw, Global}
 use Rattle.gx_base.specs.Conditions.{Condition, False}
-use Rattle.gx_base.specs.RegisterDeeds.{Deed, Use, Nothing, On}
-use Rattle.gx_base.specs.FlowKind.{flow_use}
-use Rattle.gx_base.proofs.CallerLemmas.{flow_use-foreign, row_of-empty, row_of-insert}
+use Rattle.gx_base.proofs.CallerLemmas.{row_of-empty, row_of-insert}
 use Rattle.gx_base.specs.Methods.{is_method}
-use Rattle.gx_base.specs.PreciseTables.{use_row}
-use Rattle.gx_base.specs.ShippedTables.{shipped_rows, use_by, simple_deeds, rw_deeds}
-use Rattle.gx_base.specs.Tables.{Rows}
+use Rattle.gx_base.specs.Tables.{Rows, KeepsToKind}
 use Rattle.gx_base.specs.TableRows.{RowMap, row_of}
 use Rattle.flow_graph.specs.Filling.{is_put, filled_to}
 
@@ -53,31 +46,10 @@ filled-more rows t first second c a b d e h m n =
 pub filled-row : (rows : Rows) (first m n : ℕ) → filled_to rows first 22 m n ≡ filled_to rows (first + 1) 16 m n
 filled-row rows first m n = ap (λ x. if x then rows m n else False) (row_put first m n)
 
-row-nothing : (choice : Choice) (m n : ℕ) → flow_use m ≡ Nothing → shipped_rows Flow choice m n ≡ False
-row-nothing Precise m n e = ap (λ u. use_row u (flow_use n)) e
-row-nothing Simple m n e = ap (λ u. use_by simple_deeds u (flow_use n)) e
-row-nothing Rw m n e = ap (λ u. use_by rw_deeds u (flow_use n)) e
-row-nothing Global m n e = refl
-
-use_row-nothing : (u : Use) → use_row u Nothing ≡ False
-use_row-nothing Nothing = refl
-use_row-nothing (On i d) = refl
-
-use_by-nothing : (deeds : Deed → Deed → Condition) (u : Use) → use_by deeds u Nothing ≡ False
-use_by-nothing deeds Nothing = refl
-use_by-nothing deeds (On i d) = refl
-
-row-then_nothing : (choice : Choice) (m n : ℕ) → flow_use n ≡ Nothing → shipped_rows Flow choice m n ≡ False
-row-then_nothing Precise m n e = ap (use_row (flow_use m)) e ∙ use_row-nothing (flow_use m)
-row-then_nothing Simple m n e = ap (use_by simple_deeds (flow_use m)) e ∙ use_by-nothing simple_deeds (flow_use m)
-row-then_nothing Rw m n e = ap (use_by rw_deeds (flow_use m)) e ∙ use_by-nothing rw_deeds (flow_use m)
-row-then_nothing Global m n e = refl
-
 -- after all: the rows of other methods are false
-pub filled-all : (choice : Choice) (m n : ℕ) → filled_to (shipped_rows Flow choice) 22 16 m n ≡ shipped_rows Flow choice m n
-filled-all choice m n = ap (λ x. if x then shipped_rows Flow choice m n else False) (all_put m n) ∙ by (is_method 2 m) (is_method 2 n) refl refl
+pub filled-all : (rows : Rows) → KeepsToKind 2 rows → (m n : ℕ) → filled_to rows 22 16 m n ≡ rows m n
+filled-all rows keeps m n = ap (λ x. if x then rows m n else False) (all_put m n) ∙ by (is_method 2 m && is_method 2 n) refl
   where
-    by : (b c : Bool) → is_method 2 m ≡ b → is_method 2 n ≡ c → (if b && c then shipped_rows Flow choice m n else False) ≡ shipped_rows Flow choice m n
-    by true true e f = refl
-    by false c e f = sym (row-nothing choice m n (flow_use-foreign m e))
-    by true false e f = sym (row-then_nothing choice m n (flow_use-foreign n f))
+    by : (b : Bool) → (is_method 2 m && is_method 2 n) ≡ b → (if b then rows m n else False) ≡ rows m n
+    by true e = refl
+    by false e = sym (keeps m n e)

@@ -1,6 +1,6 @@
 //! The shared part of a flow network: the heights and the excesses of its nodes and the flows of its
-//! arcs, as an object whose calls can be taken back. Start at `FlowShard`; `laws` says that the tables
-//! of conditions that it ships are valid.
+//! arcs, as an object whose calls can be taken back. Start at `FlowShard`; `kind_tables` has the tables of
+//! conditions that it ships.
 #![tactic(auto)]
 
 pub mod laws;

@@ -112,7 +112,7 @@ fn number_reply(number: i64) -> Reply
 
 #[tactic(auto, unfolding(gx_base::specs::Steps::next_state, gx_base::specs::Steps::reply_to, gx_base::specs::Steps::inverse, gx_base::specs::Steps::observed))]
 impl SeqType for FlowShard {
-    ghost use Rattle.flow_graph.specs.FlowState.{holds_flow, state_of-IsState};
+    ghost use Rattle.flow_graph.specs.FlowState.{holds_flow, tables_held, tables_held-SuitKind, foreign-has_room_in, state_of-IsState};
 
     ghost state = { state_of };
 
@@ -120,7 +120,13 @@ impl SeqType for FlowShard {
 
     ghost holds_kind = { holds_flow };
 
+    ghost tables = { tables_held };
+
     ghost known = { state_of-IsState };
+
+    ghost foreign_roomed = { foreign-has_room_in };
+
+    ghost tables_suit = { tables_held-SuitKind };
 
     fn apply(&mut self, call: Call) -> Result<Reply, NoMemory> {
         match use_of(call.method) {

@@ -2,24 +2,26 @@
 ghost use Rattle.std.specs.Prelude.{◌≡◌, ℕ, pos, IfOk};
 ghost use Rattle.gx_base.specs.Conditions.{condition_of, Eq, Or, And};
 ghost use Rattle.gx_base.specs.declared.conditions.Term.TheVariants.{Value, Const};
-ghost use Rattle.gx_base.specs.PreciseTables.{other_rows, deed_row};
-ghost use Rattle.gx_base.specs.ShippedTables.{simple_deeds, rw_deeds, shipped_rows};
+ghost use Rattle.gx_base.specs.ShippedTables.{rows_chosen};
 ghost use Rattle.gx_base.specs.TableRows.{row_of};
+ghost use Rattle.kind_tables.specs.FlowTables.{flow_tables};
+ghost use Rattle.kind_tables.specs.PairConditions.{different_numbers};
+ghost use Rattle.kind_tables.specs.RegisterTables.{precise_deeds, simple_deeds, reader_writer_deeds};
 ghost use Rattle.flow_graph.specs.Uses.{deed_of};
 
 use crate::uses::{Deed, FIRST_METHOD, METHODS_END, use_of};
-use gx_base::{Choice, Cond, Kind, NoMemory, Side, Table, Term};
+use gx_base::{Choice, Cond, NoMemory, Side, Table, Term};
 use std::alloc::Global;
 
 /// The calls use different numbers.
 fn elsewhere() -> Cond
-    ensures { condition_of result ≡ other_rows }
+    ensures { condition_of result ≡ different_numbers }
 {
     Cond::Ne(Term::Value(Side::First, 0), Term::Value(Side::Second, 0))
 }
 
 fn elsewhere_or(alloc: Global, test: Cond) -> Result<Cond, NoMemory>
-    ensures { IfOk result (λ cond. condition_of cond ≡ Or other_rows (condition_of test)) }
+    ensures { IfOk result (λ cond. condition_of cond ≡ Or different_numbers (condition_of test)) }
 {
     let left = Box::new(alloc, elsewhere())?;
     let right = Box::new(alloc, test)?;
@@ -50,7 +52,7 @@ fn found_as_written(side: Side) -> Cond
 
 /// The precise row of two deeds with numbers of one quantity.
 fn precise_row(alloc: Global, first: Deed, second: Deed) -> Result<Cond, NoMemory>
-    ensures { IfOk result (λ cond. condition_of cond ≡ deed_row (deed_of first) (deed_of second)) }
+    ensures { IfOk result (λ cond. condition_of cond ≡ precise_deeds (deed_of first) (deed_of second)) }
 {
     match (first, second) {
         (Deed::Reads, Deed::Reads) | (Deed::Adds, Deed::Adds) => Ok(Cond::True),
@@ -78,7 +80,7 @@ fn simple_row(first: Deed, second: Deed) -> Cond
 
 /// The row of readers and writers.
 fn rw_row(first: Deed, second: Deed) -> Cond
-    ensures { condition_of result ≡ rw_deeds (deed_of first) (deed_of second) }
+    ensures { condition_of result ≡ reader_writer_deeds (deed_of first) (deed_of second) }
 {
     match (first, second) {
         (Deed::Reads, Deed::Reads) => Cond::True,
@@ -88,7 +90,7 @@ fn rw_row(first: Deed, second: Deed) -> Cond
 
 /// The row of two methods in the table of a choice.
 fn row(alloc: Global, choice: Choice, first: u32, second: u32) -> Result<Cond, NoMemory>
-    ensures { IfOk result (λ cond. condition_of cond ≡ shipped_rows Kind.Flow choice first second) }
+    ensures { IfOk result (λ cond. condition_of cond ≡ rows_chosen flow_tables choice first second) }
 {
     match (use_of(first), use_of(second)) {
         (Some((one, first)), Some((other, second))) => {
@@ -107,7 +109,7 @@ fn row(alloc: Global, choice: Choice, first: u32, second: u32) -> Result<Cond, N
 
 /// The shipped table of flow shards.
 pub(crate) fn flow_table(alloc: Global, choice: Choice) -> Result<Table, NoMemory>
-    ensures { IfOk result (λ table. (first second : ℕ) → row_of table first second ≡ shipped_rows Kind.Flow choice first second) }
+    ensures { IfOk result (λ table. (first second : ℕ) → row_of table first second ≡ rows_chosen flow_tables choice first second) }
 {
     let mut table = Table::blank(alloc);
     for first in FIRST_METHOD..METHODS_END {

@@ -1,10 +1,7 @@
 -- The entries of a gate, and those of one iteration or one worker among them.
-use Rattle.std.specs.Prelude.{◌≡◌, ◌≢◌, ℕ, ◌+◌, ◌≤◌, Bool, false, not, ◌&&◌, ◌||◌, ◌==◌, if◌then◌else◌, Option, Some, None, List, [], ◌∷◌, ◌++◌, filter, ⊤}
-use Rattle.gx_base.specs.declared.calls.Made.{Made}
+use Rattle.std.specs.Prelude.{◌≡◌, ◌≢◌, ℕ, ◌+◌, ◌≤◌, Bool, false, not, ◌&&◌, ◌||◌, ◌==◌, if◌then◌else◌, Option, Some, None, List, [], ◌∷◌, ◌++◌, filter, length, ⊤}
 use Rattle.gx_base.specs.declared.acts.Entry.{Entry}
-
-abbrev pub made_of : Entry → Made
-made_of e = record { call = e.call; reply = e.reply }
+pub use Rattle.gx_base.specs.Entries.{made_of, mades_of, entries_by}
 
 -- an iteration is a worker with one of its numbers
 abbrev pub same_iteration : Entry → Entry → Bool
@@ -13,19 +10,26 @@ same_iteration e f = (e.worker == f.worker) && (e.iter == f.iter)
 abbrev pub is_of : ℕ → ℕ → Entry → Bool
 is_of worker iter e = (e.worker == worker) && (e.iter == iter)
 
--- the entries of an iteration, the others, and the entries of a worker, each in their order
+-- the entries of an iteration, and the others, each in their order
 abbrev pub entries_of : ℕ → ℕ → List Entry → List Entry
 entries_of worker iter es = filter (is_of worker iter) es
 
 abbrev pub others_than : ℕ → ℕ → List Entry → List Entry
 others_than worker iter es = filter (λ e. not (is_of worker iter e)) es
 
-abbrev pub entries_by : ℕ → List Entry → List Entry
-entries_by worker es = filter (λ e. e.worker == worker) es
-
 abbrev pub has_entry : ℕ → ℕ → List Entry → Bool
 has_entry worker iter [] = false
 has_entry worker iter (e ∷ es) = is_of worker iter e || has_entry worker iter es
+
+-- how many of the entries are of another iteration than the first of them
+abbrev pub others_of_first : List Entry → ℕ
+others_of_first [] = 0
+others_of_first (e ∷ es) = length (others_than e.worker e.iter (e ∷ es))
+
+-- 1 for an entry of another iteration than the first of these
+abbrev pub one_if_other : List Entry → Entry → ℕ
+one_if_other [] x = 0
+one_if_other (e ∷ es) x = if is_of e.worker e.iter x then 0 else 1
 
 -- the last entry of an iteration, and the entries without it
 abbrev pub last_of : ℕ → ℕ → List Entry → Option Entry

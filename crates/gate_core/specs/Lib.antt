@@ -5,3 +5,4 @@ pub mod CallAnswers
 pub mod Places
 pub mod Swaps
 pub mod Scans
+pub mod EmptySetMethods

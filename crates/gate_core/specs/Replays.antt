@@ -5,25 +5,23 @@ use Rattle.gx_base.specs.declared.conditions.Side.TheVariants.{First, Second}
 use Rattle.gx_base.specs.Conditions.{Condition, holds}
 use Rattle.gx_base.specs.Below.{names_state}
 use Rattle.gx_base.specs.States.{State}
-use Rattle.gx_base.specs.Steps.{next_state, reply_to, inverse, observed, IsState, IsCall}
+use Rattle.gx_base.specs.Steps.{next_state, observed, IsState, IsCall}
+use Rattle.gx_base.specs.Replays as replays
 use Rattle.gx_base.specs.Tables.{Rows, LooksBack}
 use Rattle.gx_base.specs.declared.acts.Entry.{Entry}
-use Rattle.gate_core.specs.Entries.{Each, made_of, same_iteration}
+use Rattle.gate_core.specs.Entries.{Each, made_of, mades_of, same_iteration}
 
--- the state after entries
+-- the state after the calls of entries
 abbrev pub after : State → List Entry → State
-after s [] = s
-after s (e ∷ es) = after (next_state s e.call) es
+after s es = replays.after s (mades_of es)
 
--- the entries replay from s to t, with their replies
+-- the calls of the entries replay from s to t, with their replies
 abbrev pub Legal : State → List Entry → State → Type 0
-Legal s [] t = s ≡ t
-Legal s (e ∷ es) t = (reply_to s e.call ≡ e.reply) × Legal (next_state s e.call) es t
+Legal s es t = replays.Legal s (mades_of es) t
 
 -- the state before entries that led to t
 abbrev pub start_of : State → List Entry → State
-start_of t [] = t
-start_of t (e ∷ es) = inverse (start_of t es) e.call e.reply
+start_of t es = replays.start_of t (mades_of es)
 
 abbrev pub AllCalls : List Entry → Type 0
 AllCalls es = Each (λ e. IsCall e.call) es

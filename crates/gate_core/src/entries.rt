@@ -1,5 +1,5 @@
-ghost use Rattle.std.specs.Prelude.{◌≡◌, ◌+◌, ◌-◌, ◌^◌, ◌<◌, ◌≤◌, ◌++◌, length, vec_len, vec_capacity, if◌then◌else◌};
-ghost use Rattle.gate_core.specs.Entries.{is_of, has_entry, entries_of, others_than, done_under};
+ghost use Rattle.std.specs.Prelude.{◌≡◌, ◌+◌, ◌-◌, ◌^◌, ◌<◌, ◌≤◌, ◌++◌, length, vec_len, vec_capacity, Some, if◌then◌else◌};
+ghost use Rattle.gate_core.specs.Entries.{is_of, has_entry, entries_of, done_under};
 ghost use Rattle.gate_core.specs.Places.{IsLastPlace};
 
 use gx_base::Entry;
@@ -40,17 +40,18 @@ pub(crate) fn append_done(
     let mut mark = mark;
     for entry in live {
         if is_entry_of(entry, worker, iter) {
-            let mut released = *entry;
-            released.done = Some(number);
-            done.push_reserved(released);
+            done.push_reserved(done_as(entry, number));
             mark = number + 1;
         }
     }
     mark
 }
 
-pub(crate) fn keep_others(live: &mut Vec<Entry>, worker: u32, iter: u64)
-    ensures { live.new.items ≡ others_than worker iter live.old.items }
+fn done_as(entry: &Entry, number: u64) -> Entry
+    ensures { result ≡ record entry.now { done = Some number } }
 {
-    live.retain(move |entry| !is_entry_of(entry, worker, iter));
+    Entry {
+        done: Some(number),
+        ..*entry
+    }
 }

@@ -1,5 +1,5 @@
 ghost use Rattle.std.specs.Prelude.{◌≡◌, ◌↔◌, ◌+◌, ◌<◌, ◌≤◌, ◌++◌, ◌∷◌, [], ℕ, List, Some, None, IfOk, OnOk, OnErr, IsTrue, length, slice_get, vec_len, vec_capacity};
-ghost use Rattle.gx_base.specs.Steps.{next_state, IsCall};
+ghost use Rattle.gx_base.specs.Steps.{next_state, inverse, IsCall};
 ghost use Rattle.gx_base.specs.TableRows.{RowMap, row_of};
 ghost use Rattle.gx_base.specs.Tables.{KeepsToKind};
 ghost use Rattle.gx_base.specs.declared.calls.Call.{Call};
@@ -10,7 +10,8 @@ ghost use Rattle.gate_core.specs.Replays.{start_of, LeadTo};
 ghost use Rattle.gate_core.specs.Views.{asked_entry};
 ghost use Rattle.gate_core.specs.CallAnswers.{AllRoomed, TellsOf};
 
-use crate::entries::{append_done, is_entry_of, keep_others, last_place};
+use crate::entries::{append_done, is_entry_of, last_place};
+use crate::live::LiveEntries;
 use crate::refusals::{GateRefuse, Told};
 use crate::screens::Screen;
 use gx_base::{Call, Entry, Item, Kind, NoMemory, Reply, Seen, SeqType, Table};
@@ -26,7 +27,7 @@ pub struct Gate<T: SeqType, S: Screen<T>> {
     table: Table,
     screen: S,
     done: Vec<Entry>,
-    live: Vec<Entry>,
+    live: LiveEntries,
     mark: u64,
 }
 
@@ -40,9 +41,9 @@ impl<T: SeqType, S: Screen<T>> Model for Gate<T, S> {
 
     ghost coded = { view_code };
 
-    ghost view = { λ g. record { kind = kind_number g.kind; table = g.table; state = T.state g.object; done = g.done.items; live = g.live.items; mark = g.mark } };
+    ghost view = { λ g. record { kind = kind_number g.kind; table = g.table; state = T.state g.object; done = g.done.items; live = g.live.entries.items; mark = g.mark } };
 
-    ghost invariant = { λ g. IsGate (record { kind = kind_number g.kind; table = g.table; state = T.state g.object; done = g.done.items; live = g.live.items; mark = g.mark }) (T.has_room g.object) (S.stands_for g.screen) (S.suits g.screen) (vec_capacity g.done) };
+    ghost invariant = { λ g. IsGate (record { kind = kind_number g.kind; table = g.table; state = T.state g.object; done = g.done.items; live = g.live.entries.items; mark = g.mark }) (T.has_room g.object) (S.stands_for g.screen) (S.suits g.screen) (vec_capacity g.done) };
 }
 
 impl<T: SeqType, S: Screen<T>> Gate<T, S> {
@@ -69,7 +70,7 @@ impl<T: SeqType, S: Screen<T>> Gate<T, S> {
             table,
             screen,
             done: Vec::new(alloc),
-            live: Vec::new(alloc),
+            live: LiveEntries::new(alloc),
             mark: 0,
         }
     }
@@ -117,7 +118,8 @@ impl<T: SeqType, S: Screen<T>> Gate<T, S> {
         self.mark
     }
 
-    /// Does a call, unless an uncommitted entry of another iteration is in its way.
+    /// Does a call, unless an uncommitted entry of another iteration is in its way. Where there is none of
+    /// another iteration, that takes no longer in a gate with many entries than in one with few.
     pub fn call(
         &mut self,
         worker: u32,
@@ -133,12 +135,12 @@ impl<T: SeqType, S: Screen<T>> Gate<T, S> {
         match conflict(
             &mut self.object,
             &mut self.screen,
-            self.live.as_slice(),
+            &self.live,
             &self.table,
             &asked,
         ) {
             Some(told) => {
-                self.object.undo(asked.call, asked.reply);
+                take_back(&mut self.object, &asked);
                 Err(GateRefuse::Conflict(told))
             }
             None => {
@@ -149,14 +151,15 @@ impl<T: SeqType, S: Screen<T>> Gate<T, S> {
         }
     }
 
-    /// Takes back the last uncommitted call of an iteration. Takes no memory.
+    /// Takes back the last uncommitted call of an iteration. Takes no memory, and no walk past other entries
+    /// where that call is the last of the gate.
     pub fn undo_last(&mut self, worker: u32, iter: u64) -> Option<(Call, Reply)>
         ensures new { self.new ≡ undo_last self.old worker iter }
         ensures back { result ≡ call_of (last_of worker iter self.old.live) }
     {
         let place = last_place(self.live.as_slice(), worker, iter)?;
         let entry = self.live.remove(place);
-        self.object.undo(entry.call, entry.reply);
+        take_back(&mut self.object, &entry);
         self.screen.left(&entry);
         Some((entry.call, entry.reply))
     }
@@ -176,7 +179,7 @@ impl<T: SeqType, S: Screen<T>> Gate<T, S> {
             number,
             self.mark,
         );
-        keep_others(&mut self.live, worker, iter);
+        self.live.keep_others(worker, iter);
     }
 }
 
@@ -184,21 +187,22 @@ impl<T: SeqType, S: Screen<T>> Gate<T, S> {
 fn take_memory<T: SeqType>(
     object: &mut T,
     done: &mut Vec<Entry>,
-    live: &mut Vec<Entry>,
+    live: &mut LiveEntries,
 ) -> Result<(), NoMemory>
     ensures state { T.state object.new ≡ T.state object.old }
-    ensures roomed { AllRoomed (T.has_room object.old) live.old.items → AllRoomed (T.has_room object.new) live.old.items }
+    ensures roomed { AllRoomed (T.has_room object.old) live.old.entries.items → AllRoomed (T.has_room object.new) live.old.entries.items }
     ensures done { done.new.items ≡ done.old.items }
-    ensures live { live.new.items ≡ live.old.items }
+    ensures live { live.new.entries.items ≡ live.old.entries.items }
     ensures capacity { vec_capacity done.old ≤ vec_capacity done.new }
-    ensures done_room { OnOk result (length done.new.items + (length live.new.items + 1) ≤ vec_capacity done.new) }
-    ensures live_room { OnOk result (vec_len live.new + 1 ≤ vec_capacity live.new) }
+    ensures done_room { OnOk result (length done.new.items + (length live.new.entries.items + 1) ≤ vec_capacity done.new) }
+    ensures live_room { OnOk result (vec_len live.new.entries + 1 ≤ vec_capacity live.new.entries) }
 {
-    if live.is_empty() {
+    let count = live.as_slice().len();
+    if count == 0 {
         object.tidy()?;
     }
-    live.reserve(1)?;
-    done.reserve(live.len() + 1)?;
+    live.reserve_one()?;
+    done.reserve(count + 1)?;
     Ok(())
 }
 
@@ -240,27 +244,40 @@ fn ask<T: SeqType, S: Screen<T>>(
     Ok(Entry { reply, ..asked })
 }
 
-// The first live entry that is in the way of a call, which the object has done.
+fn take_back<T: SeqType>(object: &mut T, entry: &Entry)
+    requires { IsTrue (T.has_room object.old (made_of entry.now)) }
+    ensures state { T.state object.new ≡ inverse (T.state object.old) entry.now.call entry.now.reply }
+    ensures kept { (made : Made) → IsTrue (T.has_room object.old made) → IsTrue (T.has_room object.new made) }
+{
+    object.undo(entry.call, entry.reply);
+}
+
+// The first live entry that is in the way of a call, which the object has done. No entry of its own iteration
+// is, so an iteration that is alone asks no screen.
 fn conflict<T: SeqType, S: Screen<T>>(
     object: &mut T,
     screen: &mut S,
-    live: &[Entry],
+    live: &LiveEntries,
     table: &Table,
     asked: &Entry,
 ) -> Option<Told>
-    requires entries { S.stands_for screen.old live.now }
+    requires entries { S.stands_for screen.old live.now.entries.items }
     requires fits { (kind : ℕ) × S.suits screen.old kind table.now × KeepsToKind kind (row_of table.now) }
-    requires roomed { AllRoomed (T.has_room object.old) (live.now ++ asked.now ∷ []) }
-    requires replays { LeadTo (row_of table.now) live.now asked.now (T.state object.old) }
-    ensures told { TellsOf (row_of table.now) (start_of (T.state object.old) (live.now ++ asked.now ∷ [])) live.now asked.now result }
+    requires roomed { AllRoomed (T.has_room object.old) (live.now.entries.items ++ asked.now ∷ []) }
+    requires replays { LeadTo (row_of table.now) live.now.entries.items asked.now (T.state object.old) }
+    ensures told { TellsOf (row_of table.now) (start_of (T.state object.old) (live.now.entries.items ++ asked.now ∷ [])) live.now.entries.items asked.now result }
     ensures state { T.state object.new ≡ T.state object.old }
     ensures kept { (made : Made) → IsTrue (T.has_room object.old made) → IsTrue (T.has_room object.new made) }
     ensures entries { (entries : List Entry) → S.stands_for screen.old entries → S.stands_for screen.new entries }
     ensures room { (worker iter : ℕ) (call : Call) → S.has_room screen.old worker iter call → S.has_room screen.new worker iter call }
     ensures same { (kind : ℕ) (table : RowMap) → S.suits screen.old kind table ↔ S.suits screen.new kind table }
 {
-    let (place, seen) = screen.first_failing(object, live, table, asked)?;
-    Some(tell(live, place, asked, seen))
+    if live.are_all_of(asked.worker, asked.iter) {
+        return None;
+    }
+    let entries = live.as_slice();
+    let (place, seen) = screen.first_failing(object, entries, table, asked)?;
+    Some(tell(entries, place, asked, seen))
 }
 
 fn tell(live: &[Entry], place: usize, asked: &Entry, seen: Seen) -> Told

@@ -1,7 +1,7 @@
 //! Laws of lawful gates, over what contracts see of a gate alone. A caller of one of these functions,
 //! which do nothing, may use what it ensures.
 
-ghost use Rattle.std.specs.Prelude.{◌≡◌, ◌+◌, ◌<◌, ◌≤◌, ◌++◌, ℕ, Bool, Some, None, List, length, true, false};
+ghost use Rattle.std.specs.Prelude.{◌≡◌, ◌+◌, ◌<◌, ◌≤◌, ◌++◌, ℕ, Some, None, List, length, true, false};
 ghost use Rattle.gx_base.specs.declared.acts.Entry.{Entry};
 ghost use Rattle.gx_base.specs.declared.calls.Call.{Call};
 ghost use Rattle.gx_base.specs.declared.items.Item.{Item};
@@ -79,7 +79,7 @@ pub fn numbers_are_below_the_mark()
 {}
 
 /// What an object ships is valid, and false for methods that aren't the kind's, as a gate asks of its table.
-pub fn shipped_tables_serve_gates()
-    ensures valid { (held : Bool) (kind : Kind) (choice : Choice) (table : RowMap) → IsShipped held kind choice table → IsValid (kind_number kind) (row_of table) }
-    ensures keeps_to_kind { (held : Bool) (kind : Kind) (choice : Choice) (table : RowMap) → IsShipped held kind choice table → KeepsToKind (kind_number kind) (row_of table) }
+pub fn shipped_tables_serve_gates<T: SeqType>()
+    ensures valid { (kind : Kind) (choice : Choice) (table : RowMap) → IsShipped (T.holds_kind kind) (T.tables kind) choice table → IsValid (kind_number kind) (row_of table) }
+    ensures keeps_to_kind { (kind : Kind) (choice : Choice) (table : RowMap) → IsShipped (T.holds_kind kind) (T.tables kind) choice table → KeepsToKind (kind_number kind) (row_of table) }
 {}

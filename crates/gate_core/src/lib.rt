@@ -8,6 +8,7 @@
 mod entries;
 mod gates;
 pub mod laws;
+mod live;
 mod refusals;
 mod scanning;
 mod screens;

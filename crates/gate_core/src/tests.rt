@@ -31,8 +31,10 @@ impl SeqType for Meagre {
     ghost use Rattle.std.specs.Prelude.{false, nat_lt};
     ghost use Rattle.gx_base.specs.Replays.{no_state};
     ghost use Rattle.gx_base.specs.SetKind.{IsMark};
+    ghost use Rattle.gx_base.specs.ShippedTables.{false_rows};
     ghost use Rattle.gx_base.specs.States.{row_cmp};
-    ghost use Rattle.std.proofs.Common.{subst, sym};
+    ghost use Rattle.gate_core.specs.EmptySetMethods.{foreign_high};
+    ghost use Rattle.std.proofs.Common.{subst, sym, true≢false};
     ghost use Rattle.std.specs.FinMap as map;
 
     ghost state = { λ _. no_state };
@@ -40,6 +42,12 @@ impl SeqType for Meagre {
     ghost has_room = { λ _ made. nat_lt 1 made.call.method };
 
     ghost holds_kind = { λ _. false };
+
+    ghost tables = { λ _. record { precise = false_rows; simple = false_rows; reader_writer = false_rows } };
+
+    ghost foreign_roomed = { λ _ made. foreign_high made.call.method };
+
+    ghost tables_suit = { λ _ held. absurd (true≢false (sym held)) };
 
     ghost known = { λ _ key. subst IsMark (sym (map.get-empty row_cmp key)) tt };
 
@@ -93,7 +101,7 @@ fn scanned<T: SeqType>(
 
 fn meagre_gate(alloc: Global, calls: u32) -> Result<Gate<Meagre, ScanScreen>, NoMemory> {
     let table = Meagre::shipped(alloc, Kind::Set, Choice::Global)?;
-    shipped_tables_serve_gates();
+    shipped_tables_serve_gates::<Meagre>();
     let object = Meagre { calls };
     match scanned(alloc, object, Kind::Set, table) {
         Some(gate) => Ok(gate),
@@ -139,34 +147,37 @@ fn release_as_third(gate: &mut Gate<Meagre, ScanScreen>) -> bool {
     rises
 }
 
+fn replies(outcome: Result<Reply, GateRefuse>) -> bool {
+    outcome == Ok(NOTHING)
+}
+
+fn lacks_memory(outcome: Result<Reply, GateRefuse>) -> bool {
+    outcome == Err(GateRefuse::NoMemory)
+}
+
+fn tells(outcome: Result<Reply, GateRefuse>, told: Told) -> bool {
+    outcome == Err(GateRefuse::Conflict(told))
+}
+
+fn takes_back(gate: &mut Gate<Meagre, ScanScreen>, iter: u64, call: Call) -> bool {
+    gate.undo_last(0, iter) == Some((call, NOTHING))
+}
+
 fn needs<T: Send + Drop>(_value: &T) {}
 
 #[test]
 fn a_call_without_memory_leaves_all_as_it_was(rt: HostRuntime) -> Result<(), Fail> {
     let mut gate = meagre_gate(rt.alloc(), 2)?;
-    assert_eq!(rt; gate.call(0, 5, ITEM, contains(4)), Ok(NOTHING));
-    assert_eq!(rt;
-        gate.call(
-            0,
-            5,
-            ITEM,
-            Call {
-                method: ADD,
-                ..contains(4)
-            }
-        ),
-        Err(GateRefuse::NoMemory)
-    );
-    assert_eq!(rt; gate.call(0, 5, ITEM, contains(6)), Ok(NOTHING));
+    assert!(rt; replies(gate.call(0, 5, ITEM, contains(4))));
+    let add = Call {
+        method: ADD,
+        ..contains(4)
+    };
+    assert!(rt; lacks_memory(gate.call(0, 5, ITEM, add)));
+    assert!(rt; replies(gate.call(0, 5, ITEM, contains(6))));
     // The object refuses its third call.
-    assert_eq!(rt;
-        gate.call(0, 5, ITEM, contains(8)),
-        Err(GateRefuse::NoMemory)
-    );
-    assert_eq!(rt;
-        gate.live(),
-        [entry(0, 5, contains(4)), entry(0, 5, contains(6))].as_slice()
-    );
+    assert!(rt; lacks_memory(gate.call(0, 5, ITEM, contains(8))));
+    assert!(rt; gate.live() == [entry(0, 5, contains(4)), entry(0, 5, contains(6))].as_slice());
     assert!(rt; gate.done().is_empty());
     assert_eq!(rt; (gate.mark(), gate.object().calls), (0, 0));
     Ok(())
@@ -192,27 +203,22 @@ fn iterations_leave_by_themselves(rt: HostRuntime) -> Result<(), Fail> {
     };
     needs(&told);
     needs(&told.held);
-    assert_eq!(rt;
-        gate.call(0, 6, ITEM, contains(1)),
-        Err(GateRefuse::Conflict(told))
-    );
-    assert_eq!(rt; gate.undo_last(0, 6), None);
-    assert_eq!(rt; gate.undo_last(0, 5), Some((contains(2), NOTHING)));
+    assert!(rt; tells(gate.call(0, 6, ITEM, contains(1)), told));
+    assert!(rt; gate.undo_last(0, 6).is_none());
+    assert!(rt; takes_back(&mut gate, 5, contains(2)));
     assert!(rt; release_as_third(&mut gate));
-    let done = [
-        Entry {
-            done: Some(3),
-            ..entry(0, 5, contains(0))
-        },
-        Entry {
-            done: Some(3),
-            ..entry(0, 5, contains(1))
-        },
-    ];
-    assert_eq!(rt; gate.done(), done.as_slice());
+    let first = Entry {
+        done: Some(3),
+        ..entry(0, 5, contains(0))
+    };
+    let second = Entry {
+        done: Some(3),
+        ..entry(0, 5, contains(1))
+    };
+    assert!(rt; gate.done() == [first, second].as_slice());
     assert!(rt; gate.live().is_empty());
     assert_eq!(rt; gate.mark(), 4);
-    assert_eq!(rt; gate.call(0, 6, ITEM, contains(1)), Ok(NOTHING));
+    assert!(rt; replies(gate.call(0, 6, ITEM, contains(1))));
     assert!(rt; matches!(gate.table().row(2, 2), Cond::False));
     // The object did three calls, the one that was in conflict, and the last.
     assert_eq!(rt; gate.into_object().calls, 15);

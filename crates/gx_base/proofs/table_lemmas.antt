@@ -1,3 +1,5 @@
 pub mod TableRowLaws
-pub mod RowPlaces
+pub mod InBucket
+pub mod Buckets
+pub mod Agreeing
 pub mod BelowLaws

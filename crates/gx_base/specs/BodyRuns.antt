@@ -4,7 +4,7 @@ use Rattle.gx_base.specs.declared.calls.Call.{Call as CallOf}
 use Rattle.gx_base.specs.declared.calls.Reply.{Reply}
 use Rattle.gx_base.specs.declared.items.Item.{Item}
 use Rattle.gx_base.specs.declared.acts.Step.{Step}
-use Rattle.gx_base.specs.Plans.{Plan, Call, Push, Done}
+use Rattle.gx_base.specs.Plans.{Plan, Call, Push}
 
 -- the steps with one more
 abbrev pub then_step : List Step → ℕ → CallOf → Reply → List Step

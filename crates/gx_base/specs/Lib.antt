@@ -17,7 +17,6 @@ pub mod Tables
 pub mod ConditionCodes
 pub mod TableRows
 pub mod RowLists
-pub mod PreciseTables
 pub mod Kinds
 pub mod Below
 pub mod Worklists

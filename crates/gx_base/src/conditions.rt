@@ -1,4 +1,4 @@
-ghost use Rattle.std.specs.Prelude.{◌≡◌, IfOk};
+ghost use Rattle.std.specs.Prelude.{◌≡◌, ◌↔◌, IfOk, IsTrue};
 ghost use Rattle.gx_base.specs.Conditions.{value_of, spot_of_part, term_value, condition_of, holds};
 
 use crate::calls::{Made, Seen, Spot};
@@ -144,6 +144,38 @@ impl Cond {
                 let inner = boxed(alloc, inner)?;
                 Ok(Cond::Not(inner))
             }
+        }
+    }
+
+    /// Whether the two are one and the same tree.
+    pub fn equals(&self, other: &Cond) -> bool
+        ensures { IsTrue result ↔ (condition_of self.now ≡ condition_of other.now) }
+    {
+        match (self, other) {
+            (Cond::True, Cond::True) | (Cond::False, Cond::False) => true,
+            (Cond::Eq(x, y), Cond::Eq(u, v)) => x.equals(*u) && y.equals(*v),
+            (Cond::Ne(x, y), Cond::Ne(u, v)) => x.equals(*u) && y.equals(*v),
+            (Cond::Lt(x, y), Cond::Lt(u, v)) => x.equals(*u) && y.equals(*v),
+            (Cond::Le(x, y), Cond::Le(u, v)) => x.equals(*u) && y.equals(*v),
+            (Cond::And(x, y), Cond::And(u, v)) => x.equals(u) && y.equals(v),
+            (Cond::Or(x, y), Cond::Or(u, v)) => x.equals(u) && y.equals(v),
+            (Cond::Not(x), Cond::Not(u)) => x.equals(u),
+            _ => false,
+        }
+    }
+}
+
+impl Term {
+    /// Whether the two are one and the same term.
+    pub fn equals(self, other: Term) -> bool
+        ensures { IsTrue result ↔ (self ≡ other) }
+    {
+        match (self, other) {
+            (Term::Const(m), Term::Const(n)) => m == n,
+            (Term::Value(s, i), Term::Value(t, j)) => s == t && i == j,
+            (Term::Beyond(p, q, r), Term::Beyond(u, v, w)) => p == u && q == v && r == w,
+            (Term::State(s), Term::State(t)) => s == t,
+            _ => false,
         }
     }
 }

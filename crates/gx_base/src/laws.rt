@@ -8,23 +8,19 @@ ghost use Rattle.gx_base.specs.declared.calls.Call.{Call};
 ghost use Rattle.gx_base.specs.declared.calls.Made.{Made};
 ghost use Rattle.gx_base.specs.declared.calls.Reply.{Reply};
 ghost use Rattle.gx_base.specs.declared.items.Item.{Item};
-ghost use Rattle.gx_base.specs.declared.kinds.Choice.{Choice};
-ghost use Rattle.gx_base.specs.declared.kinds.Kind.TheVariants.{Set, Cells, Points, Domains};
 ghost use Rattle.gx_base.specs.States.{State};
 ghost use Rattle.gx_base.specs.Steps.{next_state, reply_to, inverse, IsState, IsCall};
 ghost use Rattle.gx_base.specs.Tables.{Rows, IsValid};
 ghost use Rattle.gx_base.specs.Below.{AreBelow};
-ghost use Rattle.gx_base.specs.Kinds.{kind_number};
 ghost use Rattle.gx_base.specs.Methods.{is_method};
 ghost use Rattle.gx_base.specs.ForeignMethods.{ChangesNothing};
-ghost use Rattle.gx_base.specs.ShippedTables.{shipped_rows};
 ghost use Rattle.gx_base.specs.Plans.{Plan, Done, Operator, Follows};
 ghost use Rattle.gx_base.specs.Outcomes.{Commit, outcomes_of, journal};
 ghost use Rattle.gx_base.specs.RoomViews.{ReplaysAlone};
 ghost use Rattle.gx_base.specs.Replays.{after, Legal, start_of, AreCalls, part, Replays};
 ghost use Rattle.gx_base.specs.BodyRuns.{then_step, RunsTo};
 ghost use Rattle.gx_base.specs.SerialIterations.{body, Ended, serial, then_serial};
-ghost use Rattle.gx_base.specs.SerialRuns.{IsSerialRun, IsSerialRunInTwo, AreInTurn, AreRunsOf};
+ghost use Rattle.gx_base.specs.SerialRuns.{IsSerialRun, IsLeastFirst, IsSerialRunInTwo, AreInTurn, AreRunsOf};
 
 use crate::homed::Homed;
 
@@ -47,26 +43,6 @@ pub fn foreign_methods_change_nothing()
 /// A table below a valid one is valid.
 pub fn below_valid_is_valid()
     ensures { (kind : ℕ) (lower upper : Rows) → AreBelow lower upper → IsValid kind upper → IsValid kind lower }
-{}
-
-/// The tables that sets ship are valid.
-pub fn sets_are_valid()
-    ensures { (choice : Choice) → IsValid (kind_number Set) (shipped_rows Set choice) }
-{}
-
-/// The tables that cells ship are valid.
-pub fn cells_are_valid()
-    ensures { (choice : Choice) → IsValid (kind_number Cells) (shipped_rows Cells choice) }
-{}
-
-/// The tables that points ship are valid.
-pub fn points_are_valid()
-    ensures { (choice : Choice) → IsValid (kind_number Points) (shipped_rows Points choice) }
-{}
-
-/// The tables that domain books ship are valid.
-pub fn domains_are_valid()
-    ensures { (choice : Choice) → IsValid (kind_number Domains) (shipped_rows Domains choice) }
 {}
 
 /// The steps of a body are legal from the states that it begins in, and lead to those that it ends in.
@@ -131,6 +107,11 @@ pub fn journals_replay()
 /// Commits in turn, each of a run of its body by replies, are a serial run where their journal replays.
 pub fn runs_in_turn_are_serial()
     ensures { (op : Operator) (states ends : ℕ → State) (ready left : List Item) (commits : List Commit) → AreInTurn op.ordered ready commits left → AreRunsOf op commits → Replays states (journal commits) ends → IsSerialRun op states ready commits (record { states = ends; ready = left; outcomes = outcomes_of commits }) }
+{}
+
+/// Commits of which each was the least ready one at its turn, with what their bodies did, are a serial run, ordered or not.
+pub fn least_first_runs_are_serial()
+    ensures { (op : Operator) (states : ℕ → State) (ready : List Item) (commits : List Commit) (ended : Ended) → IsLeastFirst op states ready commits ended → outcomes_of commits ≡ ended.outcomes → IsSerialRun op states ready commits ended }
 {}
 
 /// In a lawful value of a room that is no book, the live entries of each worker replay with no other live ones.

@@ -3,7 +3,7 @@
 //!
 //! `specs/` has what they mean. Start at `specs/Steps.antt`, which says what each call does to the
 //! abstract state of an object, and `specs/Tables.antt`, which says when a table of conditions is valid.
-//! `laws` has what follows from these definitions alone, as that every shipped table is valid.
+//! `laws` has what follows from these definitions alone, as that the inverse of a call takes it back.
 #![tactic(auto)]
 
 mod acts;

@@ -1,7 +1,8 @@
 ghost use Rattle.std.specs.Prelude.{◌≡◌, ℤ, Bool, false, IsTrue, IfOk, OnOk, OnErr};
 ghost use Rattle.gx_base.specs.States.{State};
 ghost use Rattle.gx_base.specs.Steps.{next_state, reply_to, inverse, observed, IsState};
-ghost use Rattle.gx_base.specs.ShippedTables.{IsShipped};
+ghost use Rattle.gx_base.specs.ShippedTables.{KindTables, SuitKind, IsShipped};
+ghost use Rattle.gx_base.specs.Kinds.{kind_number};
 ghost use Rattle.gx_base.specs.Methods.{is_method};
 ghost use Rattle.gx_base.specs.declared.calls.Made.{Made};
 ghost use Rattle.gx_base.specs.declared.kinds.Kind.{Kind};
@@ -23,8 +24,17 @@ pub trait SeqType: Drop {
     /// Which kinds of objects the type holds.
     ghost holds_kind: { Kind → Bool };
 
+    /// What the type ships for a kind that it holds.
+    ghost tables: { Kind → KindTables };
+
     /// The state of every value is one that an object may have.
     ghost known: { (object : Self) → IsState (state object) };
+
+    /// A call of another kind of object always has room.
+    ghost foreign_roomed: { (object : Self) (made : Made) → is_method (state object).kind made.call.method ≡ false → IsTrue (has_room object made) };
+
+    /// What the type ships for a kind that it holds, the objects of this kind may use.
+    ghost tables_suit: { (kind : Kind) → IsTrue (holds_kind kind) → SuitKind (kind_number kind) (tables kind) };
 
     /// Does the call, and makes room to undo it.
     fn apply(&mut self, call: Call) -> Result<Reply, NoMemory>
@@ -62,5 +72,5 @@ pub trait SeqType: Drop {
 
     /// The shipped table of a kind that the type holds, and else one in which every row is false.
     fn shipped(alloc: Global, kind: Kind, choice: Choice) -> Result<Table, NoMemory>
-        ensures { IfOk result (IsShipped (holds_kind kind) kind choice) };
+        ensures { IfOk result (IsShipped (holds_kind kind) (tables kind) choice) };
 }

@@ -1,8 +1,8 @@
-ghost use Rattle.std.specs.Prelude.{◌≡◌, IfOk, OnOk, OnErr};
+ghost use Rattle.std.specs.Prelude.{◌≡◌, ℕ, ◌<◌, ◌↔◌, IsTrue, IfOk, OnOk, OnErr, vec_len};
 ghost use Rattle.std.specs.FinMap as map;
 ghost use Rattle.std.specs.List.{position_from};
 ghost use Rattle.gx_base.specs.Conditions.{condition_of};
-ghost use Rattle.gx_base.specs.RowLists.{is_row_of, entry_of, entries_of, IsRowPut};
+ghost use Rattle.gx_base.specs.RowLists.{is_row_of, entry_of, entries_of, buckets_of, bucket_number, entries_in, row_map_of, AreBuckets, IsRowPut, AgreeOn};
 
 use crate::conditions::Cond;
 use crate::memory::NoMemory;
@@ -20,7 +20,8 @@ pub struct Row {
 /// Conditions on pairs of methods. A pair without a row has the condition `False`.
 #[derive(Debug, Drop)]
 pub struct Table {
-    rows: Vec<Row>,
+    /// The rows, each in the bucket of its pair, so that a row is found among few others.
+    buckets: Vec<Vec<Row>>,
     /// What is lent for a pair without a row.
     blank: Cond,
 }
@@ -34,11 +35,18 @@ impl Model for Table {
 
     ghost coded = { row_map_code };
 
-    ghost use Rattle.gx_base.specs.RowLists.{entries_of, row_map_of, AreApart};
+    ghost use Rattle.gx_base.specs.RowLists.{buckets_of, row_map_of, AreBuckets};
 
-    ghost view = { λ table. row_map_of table.rows.items };
+    ghost view = { λ table. row_map_of (buckets_of table.buckets.items) };
 
-    ghost invariant = { λ table. AreApart (entries_of table.rows.items) × IsTrue (is_false (condition_of table.blank)) };
+    ghost invariant = { λ table. AreBuckets 0 (buckets_of table.buckets.items) × IsTrue (is_false (condition_of table.blank)) };
+}
+
+/// The number of the bucket of two methods.
+fn bucket_at(first: u32, second: u32) -> usize
+    ensures { result ≡ bucket_number (first, second) }
+{
+    (first % 8) as usize * 8 + (second % 8) as usize
 }
 
 /// The place of the row of two methods.
@@ -61,6 +69,32 @@ fn put_row(rows: &mut Vec<Row>, row: Row) -> Result<(), NoMemory>
     Ok(())
 }
 
+/// Makes empty buckets up to one with this number.
+fn make_buckets(buckets: &mut Vec<Vec<Row>>, number: usize) -> Result<(), NoMemory>
+    requires { AreBuckets 0 (buckets_of buckets.old.items) }
+    ensures made { OnOk result (number < vec_len buckets.new) }
+    ensures rows { row_map_of (buckets_of buckets.new.items) ≡ row_map_of (buckets_of buckets.old.items) }
+    ensures kept { AreBuckets 0 (buckets_of buckets.new.items) }
+{
+    let alloc = *buckets.allocator();
+    'more: while buckets.len() <= number {
+        buckets.push(Vec::new(alloc))?;
+    }
+    Ok(())
+}
+
+/// Puts a row in its bucket, in the place of the one for the same methods.
+fn put_in_bucket(buckets: &mut Vec<Vec<Row>>, row: Row) -> Result<(), NoMemory>
+    requires { AreBuckets 0 (buckets_of buckets.old.items) }
+    ensures ok { OnOk result (row_map_of (buckets_of buckets.new.items) ≡ map.insert (row_map_of (buckets_of buckets.old.items)) (entry_of row).0 (entry_of row).1) }
+    ensures err { OnErr result (row_map_of (buckets_of buckets.new.items) ≡ row_map_of (buckets_of buckets.old.items)) }
+    ensures kept { AreBuckets 0 (buckets_of buckets.new.items) }
+{
+    let number = bucket_at(row.first, row.second);
+    make_buckets(buckets, number)?;
+    put_row(&mut buckets[number], row)
+}
+
 fn copies(rows: &[Row], alloc: Global) -> Result<Vec<Row>, NoMemory>
     ensures { IfOk result (λ copies. entries_of copies.items ≡ entries_of rows.now) }
 {
@@ -69,6 +103,42 @@ fn copies(rows: &[Row], alloc: Global) -> Result<Vec<Row>, NoMemory>
         copies.push(row.copy(alloc)?)?;
     }
     Ok(copies)
+}
+
+fn bucket_copies(buckets: &[Vec<Row>], alloc: Global) -> Result<Vec<Vec<Row>>, NoMemory>
+    ensures { IfOk result (λ copied. buckets_of copied.items ≡ buckets_of buckets.now) }
+{
+    let mut copied = Vec::with_capacity(alloc, buckets.len())?;
+    for bucket in buckets {
+        copied.push(copies(bucket, alloc)?)?;
+    }
+    Ok(copied)
+}
+
+/// Whether two tables have the same rows for the methods of these.
+fn agree_on(rows: &[Row], one: &Table, other: &Table) -> bool
+    ensures { IsTrue result ↔ AgreeOn one.now other.now (entries_of rows.now) }
+{
+    for row in rows {
+        let here = one.row(row.first, row.second);
+        let there = other.row(row.first, row.second);
+        if !here.equals(there) {
+            return false;
+        }
+    }
+    true
+}
+
+/// Whether two tables have the same rows for the methods of all in these buckets.
+fn agree_on_all(buckets: &[Vec<Row>], one: &Table, other: &Table) -> bool
+    ensures { IsTrue result ↔ AgreeOn one.now other.now (entries_in (buckets_of buckets.now)) }
+{
+    for bucket in buckets {
+        if !agree_on(bucket, one, other) {
+            return false;
+        }
+    }
+    true
 }
 
 impl Row {
@@ -91,7 +161,7 @@ impl Table {
         ensures { result ≡ map.empty }
     {
         Table {
-            rows: Vec::new(alloc),
+            buckets: Vec::new(alloc),
             blank: Cond::False,
         }
     }
@@ -101,8 +171,8 @@ impl Table {
         ensures ok { OnOk result (self.new ≡ map.insert self.old (first, second) (condition_of cond)) }
         ensures err { OnErr result (self.new ≡ self.old) }
     {
-        put_row(
-            &mut self.rows,
+        put_in_bucket(
+            &mut self.buckets,
             Row {
                 first,
                 second,
@@ -115,21 +185,32 @@ impl Table {
     pub fn row(&self, first: u32, second: u32) -> &Cond
         ensures { condition_of result.now ≡ row_of self.now first second }
     {
-        match place_of(&self.rows, first, second) {
-            Some(place) => &self.rows[place].cond,
-            None => &self.blank,
+        let number = bucket_at(first, second);
+        if number < self.buckets.len() {
+            let rows = &self.buckets[number];
+            if let Some(place) = place_of(rows, first, second) {
+                return &rows[place].cond;
+            }
         }
+        &self.blank
     }
 
     /// A table with the same rows.
     pub fn copy(&self) -> Result<Table, NoMemory>
         ensures { IfOk result (λ copy. copy ≡ self.now) }
     {
-        let alloc = *self.rows.allocator();
-        let rows = copies(&self.rows, alloc)?;
+        let alloc = *self.buckets.allocator();
+        let buckets = bucket_copies(&self.buckets, alloc)?;
         Ok(Table {
-            rows,
+            buckets,
             blank: Cond::False,
         })
+    }
+
+    /// Whether each pair's rows are equal. A pair without a row is one whose row is `False`.
+    pub fn equals(&self, other: &Table) -> bool
+        ensures { IsTrue result ↔ ((first second : ℕ) → row_of self.now first second ≡ row_of other.now first second) }
+    {
+        agree_on_all(&self.buckets, self, other) && agree_on_all(&other.buckets, self, other)
     }
 }

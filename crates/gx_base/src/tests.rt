@@ -203,3 +203,18 @@ fn tables_keep_their_rows(rt: HostRuntime) -> Result<(), Fail> {
     assert_eq!(rt; on_adds(&twin), [true, false, true]);
     Ok(())
 }
+
+#[test]
+fn tables_are_told_apart(rt: HostRuntime) -> Result<(), Fail> {
+    let alloc = rt.alloc();
+    let mut one = Table::blank(alloc);
+    let mut other = Table::blank(alloc);
+    // An explicit `False` is a row that was never put. These two pairs share a bucket.
+    remembered(one.put(3, 11, Cond::False))?;
+    assert!(rt; one.equals(&other) && other.equals(&one));
+    remembered(one.put(11, 3, two_adds(alloc)?))?;
+    assert!(rt; !one.equals(&other) && !other.equals(&one));
+    remembered(other.put(11, 3, two_adds(alloc)?))?;
+    assert!(rt; one.equals(&other));
+    Ok(())
+}

@@ -169,7 +169,7 @@ fn compare(
 
 /// Whether the flow table of a text is below the precise one that flow shards ship.
 fn compare_with_shipped(alloc: Global, text: &str) -> Result<Result<(), NotBelow>, Fail> {
-    gate_core::laws::shipped_tables_serve_gates();
+    gate_core::laws::shipped_tables_serve_gates::<FlowShard>();
     let shipped = FlowShard::shipped(alloc, Kind::Flow, Choice::Precise)?;
     compare(alloc, Kind::Flow, text.as_bytes(), &shipped)
 }

@@ -43,7 +43,7 @@ fn reply(p: i64) -> Reply {
 /// A gate on an empty shard. The plain scan can tell the conflicts of its table.
 fn precise_gate(alloc: Global) -> Result<Gate<FlowShard, ScanScreen>, NoMemory> {
     let table = FlowShard::shipped(alloc, Kind::Flow, Choice::Precise)?;
-    shipped_tables_serve_gates();
+    shipped_tables_serve_gates::<FlowShard>();
     let screen = ScanScreen::new();
     if !<ScanScreen as Screen<FlowShard>>::fits(&screen, Kind::Flow, &table) {
         return Err(NoMemory);

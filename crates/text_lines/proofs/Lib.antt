@@ -1,3 +1,2 @@
-pub mod FieldLaws
-pub mod LineLaws
-pub mod NumberLaws
+pub mod CallerLemmas
+pub mod lemmas

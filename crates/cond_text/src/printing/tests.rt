@@ -35,20 +35,25 @@ fn not(alloc: Global, x: Cond) -> Result<Cond, NoMemory> {
     Ok(Cond::Not(inner))
 }
 
-/// The text of a comparison with 1.
-fn with_one(alloc: Global, term: Term) -> Result<String, NoMemory> {
-    print_cond(alloc, &Cond::Eq(term, Term::Const(1)))
+/// Whether a condition is printed like this.
+fn is_printed(alloc: Global, cond: &Cond, text: &str) -> Result<bool, NoMemory> {
+    Ok(print_cond(alloc, cond)?.as_str() == text)
+}
+
+/// Whether a comparison of a term with 1 is printed like this.
+fn with_one(alloc: Global, term: Term, text: &str) -> Result<bool, NoMemory> {
+    is_printed(alloc, &Cond::Eq(term, Term::Const(1)), text)
 }
 
 #[test]
 fn comparisons(rt: HostRuntime) -> Result<(), Fail> {
     let alloc = rt.alloc();
-    assert_eq!(rt; print_cond(alloc, &Cond::True)?.as_str(), "true");
-    assert_eq!(rt; print_cond(alloc, &Cond::False)?.as_str(), "false");
-    assert_eq!(rt; print_cond(alloc, &SAME)?.as_str(), "a1 = a2");
-    assert_eq!(rt; print_cond(alloc, &APART)?.as_str(), "a1 != a2");
-    assert_eq!(rt; print_cond(alloc, &BEFORE)?.as_str(), "a1 < a2");
-    assert_eq!(rt; print_cond(alloc, &Cond::Le(A2, A1))?.as_str(), "a2 <= a1");
+    assert!(rt; is_printed(alloc, &Cond::True, "true")?);
+    assert!(rt; is_printed(alloc, &Cond::False, "false")?);
+    assert!(rt; is_printed(alloc, &SAME, "a1 = a2")?);
+    assert!(rt; is_printed(alloc, &APART, "a1 != a2")?);
+    assert!(rt; is_printed(alloc, &BEFORE, "a1 < a2")?);
+    assert!(rt; is_printed(alloc, &Cond::Le(A2, A1), "a2 <= a1")?);
     Ok(())
 }
 
@@ -67,27 +72,14 @@ fn terms(rt: HostRuntime) -> Result<(), Fail> {
         (8, Side::First, "0 = 1"),
         (u32::MAX, Side::Second, "0 = 1"),
     ] {
-        let printed = with_one(alloc, Term::Value(side, place))?;
-        assert_eq!(rt; printed.as_str(), text);
+        assert!(rt; with_one(alloc, Term::Value(side, place), text)?, "{text}");
     }
     let far = Term::Beyond(Part::ArgFirst, Part::ArgSecond, Part::RepFirst);
-    assert_eq!(rt;
-        with_one(alloc, far)?.as_str(),
-        "beyond(arg1, arg2, rep1) = 1"
-    );
+    assert!(rt; with_one(alloc, far, "beyond(arg1, arg2, rep1) = 1")?);
     let near = Term::Beyond(Part::RepSecond, Part::RepSecond, Part::ArgFirst);
-    assert_eq!(rt;
-        with_one(alloc, near)?.as_str(),
-        "beyond(rep2, rep2, arg1) = 1"
-    );
-    assert_eq!(rt;
-        with_one(alloc, Term::State(Side::First))?.as_str(),
-        "dom1 = 1"
-    );
-    assert_eq!(rt;
-        with_one(alloc, Term::State(Side::Second))?.as_str(),
-        "dom2 = 1"
-    );
+    assert!(rt; with_one(alloc, near, "beyond(rep2, rep2, arg1) = 1")?);
+    assert!(rt; with_one(alloc, Term::State(Side::First), "dom1 = 1")?);
+    assert!(rt; with_one(alloc, Term::State(Side::Second), "dom2 = 1")?);
     Ok(())
 }
 
@@ -101,8 +93,7 @@ fn constants(rt: HostRuntime) -> Result<(), Fail> {
         (i64::MAX, "9223372036854775807 = 1"),
         (i64::MIN, "-9223372036854775808 = 1"),
     ] {
-        let printed = with_one(alloc, Term::Const(number))?;
-        assert_eq!(rt; printed.as_str(), text);
+        assert!(rt; with_one(alloc, Term::Const(number), text)?, "{text}");
     }
     Ok(())
 }
@@ -111,25 +102,13 @@ fn constants(rt: HostRuntime) -> Result<(), Fail> {
 fn parentheses_under_and(rt: HostRuntime) -> Result<(), Fail> {
     let alloc = rt.alloc();
     let left = and(alloc, or(alloc, SAME, APART)?, BEFORE)?;
-    assert_eq!(rt;
-        print_cond(alloc, &left)?.as_str(),
-        "(a1 = a2 or a1 != a2) and a1 < a2"
-    );
+    assert!(rt; is_printed(alloc, &left, "(a1 = a2 or a1 != a2) and a1 < a2")?);
     let right = and(alloc, SAME, or(alloc, APART, BEFORE)?)?;
-    assert_eq!(rt;
-        print_cond(alloc, &right)?.as_str(),
-        "a1 = a2 and (a1 != a2 or a1 < a2)"
-    );
+    assert!(rt; is_printed(alloc, &right, "a1 = a2 and (a1 != a2 or a1 < a2)")?);
     let left_and = and(alloc, and(alloc, SAME, APART)?, BEFORE)?;
-    assert_eq!(rt;
-        print_cond(alloc, &left_and)?.as_str(),
-        "a1 = a2 and a1 != a2 and a1 < a2"
-    );
+    assert!(rt; is_printed(alloc, &left_and, "a1 = a2 and a1 != a2 and a1 < a2")?);
     let right_and = and(alloc, SAME, and(alloc, APART, BEFORE)?)?;
-    assert_eq!(rt;
-        print_cond(alloc, &right_and)?.as_str(),
-        "a1 = a2 and (a1 != a2 and a1 < a2)"
-    );
+    assert!(rt; is_printed(alloc, &right_and, "a1 = a2 and (a1 != a2 and a1 < a2)")?);
     Ok(())
 }
 
@@ -137,47 +116,26 @@ fn parentheses_under_and(rt: HostRuntime) -> Result<(), Fail> {
 fn parentheses_under_or(rt: HostRuntime) -> Result<(), Fail> {
     let alloc = rt.alloc();
     let left = or(alloc, or(alloc, SAME, APART)?, BEFORE)?;
-    assert_eq!(rt;
-        print_cond(alloc, &left)?.as_str(),
-        "a1 = a2 or a1 != a2 or a1 < a2"
-    );
+    assert!(rt; is_printed(alloc, &left, "a1 = a2 or a1 != a2 or a1 < a2")?);
     let right = or(alloc, SAME, or(alloc, APART, BEFORE)?)?;
-    assert_eq!(rt;
-        print_cond(alloc, &right)?.as_str(),
-        "a1 = a2 or (a1 != a2 or a1 < a2)"
-    );
+    assert!(rt; is_printed(alloc, &right, "a1 = a2 or (a1 != a2 or a1 < a2)")?);
     let ands = or(alloc, and(alloc, SAME, APART)?, and(alloc, APART, BEFORE)?)?;
-    assert_eq!(rt;
-        print_cond(alloc, &ands)?.as_str(),
-        "a1 = a2 and a1 != a2 or a1 != a2 and a1 < a2"
-    );
+    assert!(rt; is_printed(alloc, &ands, "a1 = a2 and a1 != a2 or a1 != a2 and a1 < a2")?);
     Ok(())
 }
 
 #[test]
 fn parentheses_under_not(rt: HostRuntime) -> Result<(), Fail> {
     let alloc = rt.alloc();
-    assert_eq!(rt;
-        print_cond(alloc, &not(alloc, SAME)?)?.as_str(),
-        "not a1 = a2"
-    );
+    assert!(rt; is_printed(alloc, &not(alloc, SAME)?, "not a1 = a2")?);
     let twice = not(alloc, not(alloc, Cond::True)?)?;
-    assert_eq!(rt; print_cond(alloc, &twice)?.as_str(), "not not true");
+    assert!(rt; is_printed(alloc, &twice, "not not true")?);
     let of_or = not(alloc, or(alloc, SAME, APART)?)?;
-    assert_eq!(rt;
-        print_cond(alloc, &of_or)?.as_str(),
-        "not (a1 = a2 or a1 != a2)"
-    );
+    assert!(rt; is_printed(alloc, &of_or, "not (a1 = a2 or a1 != a2)")?);
     let of_and = not(alloc, and(alloc, SAME, APART)?)?;
-    assert_eq!(rt;
-        print_cond(alloc, &of_and)?.as_str(),
-        "not (a1 = a2 and a1 != a2)"
-    );
+    assert!(rt; is_printed(alloc, &of_and, "not (a1 = a2 and a1 != a2)")?);
     let inside = and(alloc, not(alloc, SAME)?, not(alloc, APART)?)?;
-    assert_eq!(rt;
-        print_cond(alloc, &inside)?.as_str(),
-        "not a1 = a2 and not a1 != a2"
-    );
+    assert!(rt; is_printed(alloc, &inside, "not a1 = a2 and not a1 != a2")?);
     Ok(())
 }
 
@@ -213,7 +171,7 @@ fn tables(rt: HostRuntime) -> Result<(), Fail> {
     table.put(0, 0, apart_or_idle(alloc)?)?;
     // A row of another kind's method.
     table.put(0, 8, Cond::True)?;
-    assert_eq!(rt; print_table(alloc, Kind::Set, &table)?.as_str(), SET_TEXT);
+    assert!(rt; print_table(alloc, Kind::Set, &table)?.as_str() == SET_TEXT);
     Ok(())
 }
 
@@ -230,7 +188,7 @@ fn each_kind(rt: HostRuntime) -> Result<(), Fail> {
     ] {
         let printed = print_table(alloc, kind, &table)?;
         assert!(rt; printed.as_str().starts_with(front));
-        assert_eq!(rt; printed.as_str().lines().count(), lines);
+        assert!(rt; printed.as_str().lines().count() == lines);
     }
     Ok(())
 }

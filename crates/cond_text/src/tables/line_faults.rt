@@ -8,7 +8,7 @@ use crate::faults::TextFault;
 use gx_base::NoMemory;
 
 /// What is wrong with a line, or want of memory.
-#[derive(Clone, Copy, Debug, PartialEq, Eq, Drop)]
+#[derive(Clone, Copy, Drop)]
 pub(super) enum LineFault {
     Syntax,
     UnknownMethod,

@@ -10,7 +10,7 @@ use crate::tokens::{Token, next_token};
 use text_lines::is_blank;
 
 /// What a line says by its first tokens.
-#[derive(Clone, Copy, Debug)]
+#[derive(Clone, Copy)]
 pub(super) enum Said<'a> {
     /// The name of a kind after `type`.
     TypeLine(&'a [u8]),

@@ -15,7 +15,7 @@ use gx_base::Kind;
 use std::alloc::Global;
 
 /// What has been read of a table's text.
-#[derive(Debug, Drop)]
+#[derive(Drop)]
 pub(super) enum Reader {
     /// No `type` line yet.
     Untyped,

@@ -14,7 +14,7 @@ use std::alloc::Global;
 
 /// The rows that have been read. A table lends `false` for a pair without a row, so the pairs that have one stand
 /// beside it.
-#[derive(Debug, Drop)]
+#[derive(Drop)]
 pub(super) struct Rows {
     pub(super) kind: Kind,
     pub(super) table: Table,

@@ -1,8 +1,7 @@
 -- The journal of a serial run replays, and commits of runs whose journal replays are a serial run.
-use Rattle.std.specs.Prelude.{◌≡◌, ℕ, Bool, true, if◌then◌else◌, Option, Some, None, List, [], ◌∷◌, ◌++◌, refl}
+use Rattle.std.specs.Prelude.{◌≡◌, ℕ, true, if◌then◌else◌, Some, None, List, [], ◌∷◌, ◌++◌, refl}
 use Rattle.std.proofs.Common.{sym, ◌∙◌, ap, subst}
 use Rattle.gx_base.specs.declared.items.Item.{Item}
-use Rattle.gx_base.specs.declared.acts.Step.{Step}
 use Rattle.gx_base.specs.States.{State}
 use Rattle.gx_base.specs.Plans.{Operator}
 use Rattle.gx_base.specs.Replays.{Replays}
@@ -37,7 +36,7 @@ ran_by op item o states between h r =
     body-whole (op.plan item) o.steps o.pushes states between h.whole r ∙ (λ i. record { outcome = record { steps = o.steps; pushes = o.pushes; withdrawn = sym h.withdraws_nothing i }; states = between })
 
 -- an item that may commit commits, and the rest of the order goes on after its body
-turn_of : (op : Operator) (states : ℕ → State) (ready : List Item) (item : Item) (order : List Item) (ran : Ran) (rest : Ended) → body (op.plan item) states ≡ ran → may_commit op.ordered ready item ≡ true
+pub turn_of : (op : Operator) (states : ℕ → State) (ready : List Item) (item : Item) (order : List Item) (ran : Ran) (rest : Ended) → body (op.plan item) states ≡ ran → may_commit op.ordered ready item ≡ true
     → serial op ran.states (ready_after ready item ran.outcome) order ≡ Some rest → serial op states ready (item ∷ order) ≡ Some (record rest { outcomes = ran.outcome ∷ rest.outcomes })
 unfolding serial
 turn_of op states ready item order ran rest b m s =

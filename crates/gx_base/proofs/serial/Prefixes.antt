@@ -1,11 +1,10 @@
 -- A serial iteration splits at each prefix of its order, and a serial run at each prefix of its commits.
 use Rattle.std.specs.Prelude.{◌≡◌, ℕ, suc, Bool, true, false, if◌then◌else◌, Option, Some, None, List, [], ◌∷◌, ◌++◌, length, refl}
-use Rattle.std.proofs.Common.{sym, ◌∙◌, ap, subst, arith}
+use Rattle.std.proofs.Common.{sym, ◌∙◌, ap, arith}
 use Rattle.gx_base.specs.declared.items.Item.{Item}
-use Rattle.gx_base.specs.declared.acts.Step.{Step}
 use Rattle.gx_base.specs.States.{State}
 use Rattle.gx_base.specs.Plans.{Operator}
-use Rattle.gx_base.specs.Outcomes.{Outcome, Commit, order_of, outcomes_of, journal}
+use Rattle.gx_base.specs.Outcomes.{Outcome, Commit, order_of, outcomes_of}
 use Rattle.gx_base.specs.SerialIterations.{body, Ended, may_commit, ready_after, with_first, with_before, serial, then_serial}
 use Rattle.gx_base.specs.SerialRuns.{IsSerialRun, IsSerialRunInTwo}
 

@@ -1,6 +1,6 @@
 use Rattle.std.proofs.Common.{◌+◌, ◌*◌}
 use Rattle.gx_base.specs.Conditions.{condition_of}
-use Rattle.cond_lattice.specs.Rows.{parts_of}
+use Rattle.cond_lattice.specs.AnswerRows.{parts_of}
 use Rattle.cond_lattice.proofs.decisions.+decisions.Given as goal
 
 -- the one goes on to the other with the same pair, and that one back with a smaller pair

@@ -1,5 +1,5 @@
 use Rattle.std.proofs.Common.{rules}
-use Rattle.cond_lattice.proofs.Derived.{row_rules, row_sound}
+use Rattle.cond_lattice.proofs.order.Derived.{row_rules, row_sound}
 use Rattle.cond_lattice.proofs.rules.row_below.Goals as goal
 
 pub returns-then-is_derived-clause-rules : goal.returns-then-is_derived-clause-rules

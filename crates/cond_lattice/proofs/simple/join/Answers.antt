@@ -2,7 +2,7 @@ use Rattle.std.proofs.Common.{◌≡◌, rules}
 use Rattle.std.proofs.lemmas.Result.{IfOk-weaker}
 use Rattle.gx_base.specs.Conditions.{condition_of}
 use Rattle.cond_lattice.specs.Simple.{join_of}
-use Rattle.cond_lattice.proofs.Bounds.{is_join}
+use Rattle.cond_lattice.proofs.bounds.Bounds.{is_join}
 use Rattle.cond_lattice.proofs.simple.join.Goals as goal
 
 pub returns-clause-bound : goal.returns-clause-bound

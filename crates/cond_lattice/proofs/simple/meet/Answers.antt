@@ -2,7 +2,7 @@ use Rattle.std.proofs.Common.{◌≡◌, rules}
 use Rattle.std.proofs.lemmas.Result.{IfOk-weaker}
 use Rattle.gx_base.specs.Conditions.{condition_of}
 use Rattle.cond_lattice.specs.Simple.{meet_of}
-use Rattle.cond_lattice.proofs.Bounds.{is_meet}
+use Rattle.cond_lattice.proofs.bounds.Bounds.{is_meet}
 use Rattle.cond_lattice.proofs.simple.meet.Goals as goal
 
 pub returns-clause-bound : goal.returns-clause-bound

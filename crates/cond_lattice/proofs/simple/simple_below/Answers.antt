@@ -1,6 +1,6 @@
 use Rattle.std.proofs.Common.{rules}
 use Rattle.gx_base.specs.Conditions.{condition_of}
-use Rattle.cond_lattice.proofs.Implied.{order_is_implication}
+use Rattle.cond_lattice.proofs.bounds.Implied.{order_is_implication}
 use Rattle.cond_lattice.proofs.simple.simple_below.Goals as goal
 
 pub returns-then-not-is_false-clause-implication : goal.returns-then-not-is_false-clause-implication

@@ -8,8 +8,8 @@ use Rattle.cond_lattice.proofs.table_classes.first_class.Given as goal
 -- with the rest of the methods it comes to the greatest class of all
 abbrev pub invariant-loop-second : goal.invariant-loop-second
 invariant-loop-second l =
-    greater l.grade (greatest (map (λ second. grade_of (row_of l.table l.first second)) (drop l.place (methods_of (kind_number l.kind)))))
+    greater l.grade (greatest (map (λ second. grade_of (row_of l.table l.first second)) (drop l.second_place (methods_of (kind_number l.kind)))))
     ≡ first_grade (kind_number l.kind) (row_of l.table) l.first
 
 abbrev pub decreases-loop-second : goal.decreases-loop-second
-decreases-loop-second l = 6 - l.place
+decreases-loop-second l = 6 - l.second_place

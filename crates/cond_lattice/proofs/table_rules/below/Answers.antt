@@ -4,8 +4,8 @@ use Rattle.gx_base.specs.Methods.{is_method}
 use Rattle.gx_base.specs.TableRows.{row_of}
 use Rattle.gx_base.proofs.CallerLemmas.{one_more, all_methods}
 use Rattle.cond_lattice.specs.Derivations.{IsRowBelow}
-use Rattle.cond_lattice.proofs.Derived.{IsRowBelow-sound}
-use Rattle.cond_lattice.proofs.TableLemmas.{rows_sound}
+use Rattle.cond_lattice.proofs.order.Derived.{IsRowBelow-sound}
+use Rattle.cond_lattice.proofs.tables.TableLemmas.{rows_sound}
 use Rattle.cond_lattice.proofs.table_rules.below.Goals as goal
 
 pub loop-first-preserved : goal.loop-first-preserved

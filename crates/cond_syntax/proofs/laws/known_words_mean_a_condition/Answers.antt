@@ -1,4 +1,4 @@
-use Rattle.cond_syntax.specs.MachineLaws.{known_words, unknown_word}
+use Rattle.cond_syntax.proofs.grammar.KnownWords.{known_words, unknown_word}
 use Rattle.cond_syntax.proofs.laws.known_words_mean_a_condition.Goals as goal
 
 pub returns-clause-known : goal.returns-clause-known

@@ -1,4 +1,4 @@
-use Rattle.cond_syntax.specs.MachineLaws.{one_tree}
+use Rattle.cond_syntax.proofs.grammar.OneTree.{one_tree}
 use Rattle.cond_syntax.proofs.laws.tokens_spell_one_condition.Goals as goal
 
 pub returns : goal.returns

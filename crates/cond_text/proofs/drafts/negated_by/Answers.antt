@@ -1,5 +1,5 @@
 use Rattle.std.proofs.Common.{◌≡◌, inl, arith, add-one}
-use Rattle.cond_text.proofs.DraftLaws.{depth_of-negated_by}
+use Rattle.cond_text.proofs.reading.DraftLemmas.{depth_of-negated_by}
 use Rattle.cond_text.proofs.drafts.negated_by.Goals as goal
 
 pub returns-then-nots-gt-MOST_DEEP : goal.returns-then-nots-gt-MOST_DEEP

@@ -1,4 +1,4 @@
-use Rattle.cond_text.proofs.LevelLaws.{left_given, left_missing}
+use Rattle.cond_text.proofs.reading.LevelLemmas.{left_given, left_missing}
 use Rattle.cond_text.proofs.levels.with_left.Goals as goal
 
 pub returns-in-Some : goal.returns-in-Some

@@ -1,9 +1,9 @@
 use Rattle.std.proofs.Common.{ap, ◌∙◌}
-use Rattle.cond_syntax.specs.Machine.{close_read, unit_done}
+use Rattle.cond_text.specs.Machine.{close_read, unit_done}
 use Rattle.cond_text.specs.Drafts.{either_of}
 use Rattle.cond_text.specs.Levels.{outside, or_frames}
-use Rattle.cond_text.proofs.LevelLaws.{close_read-some}
-use Rattle.cond_text.proofs.ReaderLaws.{AreOutside-pop}
+use Rattle.cond_text.proofs.reading.LevelLemmas.{close_read-some}
+use Rattle.cond_text.proofs.reading.ReaderLemmas.{AreOutside-pop}
 use Rattle.cond_text.proofs.readers.after_close.Goals as goal
 
 pub returns : goal.returns

@@ -1,7 +1,7 @@
 use Rattle.std.proofs.Common.{reverse, Some, ◌∷◌}
-use Rattle.cond_syntax.specs.Machine.{Group}
+use Rattle.cond_text.specs.Machine.{Group}
 use Rattle.cond_text.specs.Readers.{AreOutside}
-use Rattle.cond_text.proofs.ReaderLaws.{AreOutside-push}
+use Rattle.cond_text.proofs.reading.ReaderLemmas.{AreOutside-push}
 use Rattle.cond_text.proofs.readers.after_open.Goals as goal
 
 pub returns : goal.returns

@@ -1,10 +1,10 @@
 use Rattle.std.proofs.Common.{[], ◌∙◌, refl, arith}
 use Rattle.std.proofs.lemmas.Result.{err_from_is_err_and}
 use Rattle.gx_base.specs.Kinds.{kind_number}
-use Rattle.cond_syntax.specs.Machine.{Operand}
+use Rattle.cond_text.specs.Machine.{Operand}
 use Rattle.cond_text.specs.Readers.{IsRead}
-use Rattle.cond_text.proofs.SourceLaws.{IsLater-then}
-use Rattle.cond_text.proofs.ReaderLaws.{stops_whole, ended_whole}
+use Rattle.cond_text.proofs.reading.SourceLemmas.{IsLater-then}
+use Rattle.cond_text.proofs.reading.ReaderLemmas.{stops_whole, ended_whole}
 use Rattle.cond_text.proofs.readers.read_tokens.Goals as goal
 
 pub loop-token-init : goal.loop-token-init

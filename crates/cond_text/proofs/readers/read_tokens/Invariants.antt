@@ -1,6 +1,6 @@
 use Rattle.std.proofs.Common.{◌≡◌, [], Some, length}
 use Rattle.gx_base.specs.Kinds.{kind_number}
-use Rattle.cond_syntax.specs.Machine.{State, Operand}
+use Rattle.cond_text.specs.Machine.{State, Operand}
 use Rattle.cond_text.specs.Sources.{IsLater, reading}
 use Rattle.cond_text.specs.Readers.{IsRead}
 use Rattle.cond_text.proofs.readers.read_tokens.Given as goal

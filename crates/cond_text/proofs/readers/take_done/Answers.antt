@@ -1,5 +1,5 @@
 use Rattle.std.proofs.Common.{Some, ◌∷◌, ◌∙◌, ap}
-use Rattle.cond_syntax.specs.Machine.{AndLeft, Operand, conjunction_read}
+use Rattle.cond_text.specs.Machine.{AndLeft, Operand, conjunction_read}
 use Rattle.cond_text.specs.CodeTokens.{token_seen}
 use Rattle.cond_text.proofs.readers.take_done.Goals as goal
 

@@ -1,6 +1,6 @@
 use Rattle.std.proofs.Common.{◌≡◌, length, arith}
 use Rattle.std.proofs.lemmas.Grind.{common_steps}
-use Rattle.cond_text.proofs.LineSteps.{one_more, one_line_more, refused_next, all_read, all_counted}
+use Rattle.cond_text.proofs.texts.LineSteps.{one_more, one_line_more, refused_next, all_read, all_counted}
 use Rattle.cond_text.proofs.tables.read_lines.Goals as goal
 
 pub returns-in-Err-clause-fault : goal.returns-in-Err-clause-fault

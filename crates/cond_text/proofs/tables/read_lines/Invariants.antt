@@ -1,7 +1,7 @@
 use Rattle.std.proofs.Common.{◌+◌, ◌≤◌, length}
 use Rattle.text_lines.specs.Lines.{lines_of}
 use Rattle.cond_text.specs.LineAnswers.{so_far}
-use Rattle.cond_text.proofs.LineSteps.{HaveRead}
+use Rattle.cond_text.proofs.texts.LineSteps.{HaveRead}
 use Rattle.cond_text.proofs.tables.read_lines.Given as goal
 
 abbrev pub invariant-loop-rest : goal.invariant-loop-rest

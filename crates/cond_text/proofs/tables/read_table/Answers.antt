@@ -3,8 +3,8 @@ use Rattle.std.proofs.lemmas.Result.{err_from_is_err_and}
 use Rattle.text_lines.specs.Lines.{lines_of}
 use Rattle.cond_syntax.specs.TableTexts.{Untyped, AreRead, IsTableText}
 use Rattle.cond_text.specs.declared.faults.TextFault.TheVariants.{Syntax}
-use Rattle.cond_text.proofs.LineSteps.{untyped_at_end}
-use Rattle.cond_text.proofs.OneAnswer.{told_of_table, told_of_fault, given_table, no_table_given}
+use Rattle.cond_text.proofs.texts.LineSteps.{untyped_at_end}
+use Rattle.cond_text.proofs.texts.OneAnswer.{told_of_table, told_of_fault, given_table, no_table_given}
 use Rattle.cond_text.proofs.tables.read_table.Goals as goal
 
 pub returns-in_err-reader-clause-only_table : goal.returns-in_err-reader-clause-only_table

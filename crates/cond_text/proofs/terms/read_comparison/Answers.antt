@@ -1,11 +1,11 @@
 use Rattle.std.proofs.Common.{◌∙◌, ap, refl}
 use Rattle.std.proofs.lemmas.Result.{err_from_is_err_and}
-use Rattle.cond_syntax.specs.Machine.{First, Second, TermDue}
+use Rattle.cond_text.specs.Machine.{First, Second, TermDue}
 use Rattle.cond_text.specs.CodeTokens.{token_seen}
 use Rattle.cond_text.specs.Comparisons.{term_spelled, relation_spelled}
 use Rattle.cond_text.specs.Sources.{reading}
-use Rattle.cond_text.proofs.SourceLaws.{token_stops, part_stops}
-use Rattle.cond_text.proofs.TokenLaws.{term_read-begun}
+use Rattle.cond_text.proofs.reading.SourceLemmas.{token_stops, part_stops}
+use Rattle.cond_text.proofs.reading.TokenLemmas.{term_read-begun}
 use Rattle.cond_text.proofs.terms.read_comparison.Goals as goal
 
 pub returns-in_err-left-clause-leads : goal.returns-in_err-left-clause-leads

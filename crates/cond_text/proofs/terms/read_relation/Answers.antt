@@ -1,8 +1,8 @@
 use Rattle.std.proofs.Common.{refl}
 use Rattle.std.proofs.lemmas.Result.{err_from_is_err_and}
-use Rattle.cond_syntax.specs.Machine.{OperatorDue}
-use Rattle.cond_text.proofs.SourceLaws.{token_stops, other_stops}
-use Rattle.cond_text.proofs.TokenLaws.{operator_read-other}
+use Rattle.cond_text.specs.Machine.{OperatorDue}
+use Rattle.cond_text.proofs.reading.SourceLemmas.{token_stops, other_stops}
+use Rattle.cond_text.proofs.reading.TokenLemmas.{operator_read-other}
 use Rattle.cond_text.proofs.terms.read_relation.Goals as goal
 
 pub returns-in_err-token-clause-leads : goal.returns-in_err-token-clause-leads

@@ -1,7 +1,7 @@
 use Rattle.std.proofs.Common.{◌∙◌, ap}
 use Rattle.cond_text.specs.Sources.{reading}
-use Rattle.cond_text.proofs.SourceLaws.{reading-none}
-use Rattle.cond_text.proofs.TokenLaws.{term_begun-other}
+use Rattle.cond_text.proofs.reading.SourceLemmas.{reading-none}
+use Rattle.cond_text.proofs.reading.TokenLemmas.{term_begun-other}
 use Rattle.cond_text.proofs.terms.read_term.Goals as goal
 
 pub returns-in_default-clause-leads : goal.returns-in_default-clause-leads

@@ -1,5 +1,5 @@
 use Rattle.std.proofs.Common.{sym, ◌∙◌}
-use Rattle.cond_text.proofs.PieceLaws.{front_more}
+use Rattle.cond_text.proofs.reading.PieceLemmas.{front_more}
 use Rattle.cond_text.proofs.tokens.front_of_piece.Goals as goal
 
 pub loop-at-preserved : goal.loop-at-preserved

@@ -1,5 +1,5 @@
 use Rattle.std.proofs.Common.{◌∙◌}
-use Rattle.cond_text.proofs.MethodNames.{find-methods}
+use Rattle.cond_text.proofs.methods.MethodNames.{find-methods}
 use Rattle.cond_text.proofs.words.method_named.Goals as goal
 
 pub returns : goal.returns

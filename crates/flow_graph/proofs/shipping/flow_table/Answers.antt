@@ -1,25 +1,27 @@
 use Rattle.std.proofs.Common.{◌≡◌, ◌∙◌, ap, arith}
-use Rattle.gx_base.specs.declared.kinds.Kind.TheVariants.{Flow}
-use Rattle.gx_base.specs.ShippedTables.{shipped_rows}
+use Rattle.gx_base.specs.ShippedTables.{rows_chosen}
 use Rattle.gx_base.specs.TableRows.{row_of}
+use Rattle.gx_base.specs.declared.kinds.Kind.TheVariants.{Flow}
+use Rattle.kind_tables.proofs.CallerLemmas.{tables_of-SuitKind}
+use Rattle.kind_tables.specs.FlowTables.{flow_tables}
 use Rattle.flow_graph.specs.Filling.{filled_to}
 use Rattle.flow_graph.proofs.Fills.{filled-none, filled-more, filled-row, filled-all}
 use Rattle.flow_graph.proofs.shipping.flow_table.Goals as goal
 
 pub loop-first-init : goal.loop-first-init
-loop-first-init c = λ m n. ap (λ t. row_of t m n) c.blank-table.ensures ∙ filled-none (shipped_rows Flow c.args.choice) m n
+loop-first-init c = λ m n. ap (λ t. row_of t m n) c.blank-table.ensures ∙ filled-none (rows_chosen flow_tables c.args.choice) m n
 
 pub loop-second-preserved : goal.loop-second-preserved
 loop-second-preserved c = λ m n.
     ap (λ t. row_of t m n) c.in_ok-put.ensures.ok
-    ∙ filled-more (shipped_rows Flow c.args.choice) c.loop-second.table c.loop-first.first c.loop-second.second _ (omega arith) (omega arith) (omega arith) c.in_ok-cond.ensures c.loop-second.invariant m n
+    ∙ filled-more (rows_chosen flow_tables c.args.choice) c.loop-second.table c.loop-first.first c.loop-second.second _ (omega arith) (omega arith) (omega arith) c.in_ok-cond.ensures c.loop-second.invariant m n
 
 pub loop-first-preserved : goal.loop-first-preserved
 loop-first-preserved c = λ m n.
     let e : c.loop-second.second ≡ 22 = omega arith in
-    c.loop-second.invariant m n ∙ ap (λ s. filled_to (shipped_rows Flow c.args.choice) c.loop-first.first s m n) e ∙ filled-row (shipped_rows Flow c.args.choice) c.loop-first.first m n
+    c.loop-second.invariant m n ∙ ap (λ s. filled_to (rows_chosen flow_tables c.args.choice) c.loop-first.first s m n) e ∙ filled-row (rows_chosen flow_tables c.args.choice) c.loop-first.first m n
 
 pub returns : goal.returns
 returns c = λ m n.
     let e : c.loop-first.first ≡ 22 = omega arith in
-    c.loop-first.invariant m n ∙ ap (λ f. filled_to (shipped_rows Flow c.args.choice) f 16 m n) e ∙ filled-all c.args.choice m n
+    c.loop-first.invariant m n ∙ ap (λ f. filled_to (rows_chosen flow_tables c.args.choice) f 16 m n) e ∙ filled-all (rows_chosen flow_tables c.args.choice) ((tables_of-SuitKind Flow).keeps_to_kind c.args.choice) m n

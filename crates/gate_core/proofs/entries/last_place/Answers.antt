@@ -1,6 +1,6 @@
 use Rattle.std.proofs.Common.{◌≡◌, ◌+◌, ◌-◌, false, drop, arith, sym, ◌∙◌, ap}
 use Rattle.gate_core.specs.Entries.{has_entry}
-use Rattle.gate_core.proofs.Walking.{found_last}
+use Rattle.gate_core.proofs.lists.Walking.{found_last}
 use Rattle.gate_core.proofs.entries.last_place.Goals as goal
 
 pub returns-then-is_entry_of : goal.returns-then-is_entry_of

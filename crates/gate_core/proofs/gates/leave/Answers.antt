@@ -1,6 +1,6 @@
 use Rattle.std.proofs.Common.{◌-◌, ◌++◌, take, drop, arith, sym, ◌∙◌}
 use Rattle.gate_core.specs.Entries.{others_than}
-use Rattle.gate_core.proofs.Walking.{leaves_before}
+use Rattle.gate_core.proofs.lists.Walking.{leaves_before}
 use Rattle.gate_core.proofs.gates.leave.Goals as goal
 
 pub left-requires : goal.left-requires

@@ -1,4 +1,4 @@
-use Rattle.gate_core.proofs.GateLaws.{released_first}
+use Rattle.gate_core.proofs.lawful.GateLaws.{released_first}
 use Rattle.gate_core.proofs.laws.an_iteration_may_come_first.Goals as goal
 
 pub returns : goal.returns

@@ -1,4 +1,4 @@
-use Rattle.gate_core.proofs.KeptLawful.{admit_keeps}
+use Rattle.gate_core.proofs.lawful.KeptLawful.{admit_keeps}
 use Rattle.gate_core.proofs.laws.calls_keep_gates.Goals as goal
 
 pub returns-clause-lawful : goal.returns-clause-lawful

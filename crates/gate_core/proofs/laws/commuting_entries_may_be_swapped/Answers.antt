@@ -1,4 +1,4 @@
-use Rattle.gate_core.proofs.Swapping.{swapped}
+use Rattle.gate_core.proofs.replays.Swapping.{swapped}
 use Rattle.gate_core.proofs.laws.commuting_entries_may_be_swapped.Goals as goal
 
 pub returns : goal.returns

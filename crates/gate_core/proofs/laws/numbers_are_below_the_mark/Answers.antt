@@ -1,4 +1,4 @@
-use Rattle.gate_core.proofs.GateLaws.{numbers_below}
+use Rattle.gate_core.proofs.lawful.GateLaws.{numbers_below}
 use Rattle.gate_core.proofs.laws.numbers_are_below_the_mark.Goals as goal
 
 pub returns : goal.returns

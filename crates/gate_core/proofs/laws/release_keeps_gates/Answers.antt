@@ -1,4 +1,4 @@
-use Rattle.gate_core.proofs.KeptLawful.{release_keeps}
+use Rattle.gate_core.proofs.lawful.KeptLawful.{release_keeps}
 use Rattle.gate_core.proofs.laws.release_keeps_gates.Goals as goal
 
 pub returns-clause-lawful : goal.returns-clause-lawful

@@ -2,7 +2,7 @@ use Rattle.std.proofs.Common.{Some, sym, subst}
 use Rattle.gx_base.specs.declared.calls.Seen.{Seen}
 use Rattle.gx_base.specs.TableRows.{row_of}
 use Rattle.gate_core.specs.Replays.{IsFirstFailing}
-use Rattle.gate_core.proofs.ScanLemmas.{found, all_passed}
+use Rattle.gate_core.proofs.scans.ScanLemmas.{found, all_passed}
 use Rattle.gate_core.proofs.scanning.scan.Goals as goal
 
 pub returns-then-not-may_stand : goal.returns-then-not-may_stand

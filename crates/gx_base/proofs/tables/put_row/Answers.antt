@@ -1,5 +1,5 @@
 use Rattle.std.proofs.Common.{◌<◌, length, sym, arith}
-use Rattle.gx_base.proofs.table_lemmas.RowPlaces.{found_at, IsRowPut-set, IsRowPut-push}
+use Rattle.gx_base.proofs.table_lemmas.InBucket.{found_at, IsRowPut-set, IsRowPut-push}
 use Rattle.gx_base.proofs.tables.put_row.Goals as goal
 
 pub index_mut-requires : goal.index_mut-requires

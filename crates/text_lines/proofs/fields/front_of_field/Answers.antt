@@ -1,7 +1,7 @@
 use Rattle.std.proofs.Common.{◌≡◌, true, length, get_or, drop, arith, ◌∙◌, ap, sym}
 use Rattle.std.proofs.lemmas.List.{at_drop_more, drop_all}
 use Rattle.text_lines.specs.Fields.{ends_here, is_blank}
-use Rattle.text_lines.proofs.FieldLaws.{field_to, not_at_start}
+use Rattle.text_lines.proofs.lemmas.FieldLemmas.{field_to, not_at_start}
 use Rattle.text_lines.proofs.fields.front_of_field.Goals as goal
 
 pub returns-then-is_blank-clause-field : goal.returns-then-is_blank-clause-field

@@ -1,6 +1,6 @@
 use Rattle.std.proofs.Common.{◌≡◌, [], length, drop, add-one, arith}
 use Rattle.std.proofs.lemmas.List.{take_rest, drop_all}
-use Rattle.text_lines.proofs.LineLaws.{line_to, last_line}
+use Rattle.text_lines.proofs.lemmas.LineLemmas.{line_to, last_line}
 use Rattle.text_lines.proofs.lines.first_line.Goals as goal
 
 pub returns-then-byte-eq10-clause-lines : goal.returns-then-byte-eq10-clause-lines

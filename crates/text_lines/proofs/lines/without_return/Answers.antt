@@ -1,5 +1,5 @@
-use Rattle.text_lines.proofs.LineLaws.{is_dropped, is_absent}
-use Rattle.text_lines.proofs.NumberLaws.{some_from_test}
+use Rattle.text_lines.proofs.lemmas.LineLemmas.{is_dropped, is_absent}
+use Rattle.text_lines.proofs.lemmas.NumberLemmas.{some_from_test}
 use Rattle.text_lines.proofs.lines.without_return.Goals as goal
 
 pub returns-then-line-end-eq13 : goal.returns-then-line-end-eq13

@@ -3,7 +3,7 @@ use Rattle.std.proofs.lemmas.Bool.{eqb-true}
 use Rattle.std.specs.Char.{is_ascii_digit}
 use Rattle.text_lines.specs.Numbers.{all_digits, value_from}
 use Rattle.std.proofs.lemmas.List.{at_drop_all}
-use Rattle.text_lines.proofs.NumberLaws.{no_digits, too_many, other_sign, only_digits, digits_more, digits_end, value_more, room, small_value, small_more, some_from_test, digit_small}
+use Rattle.text_lines.proofs.lemmas.NumberLemmas.{no_digits, too_many, other_sign, only_digits, digits_more, digits_end, value_more, room, small_value, small_more, some_from_test, digit_small}
 use Rattle.text_lines.proofs.numbers.number.Goals as goal
 
 pub returns-then-is_empty-clause-value : goal.returns-then-is_empty-clause-value

@@ -1,8 +1,8 @@
 use Rattle.std.proofs.Common.{Some, None, ◌∷◌, ◌∙◌, refl, ap}
-use Rattle.cond_syntax.specs.Machine.{OrLeft, or_read}
+use Rattle.cond_text.specs.Machine.{OrLeft, or_read}
 use Rattle.cond_text.specs.Drafts.{either_of}
 use Rattle.cond_text.specs.Levels.{outside}
-use Rattle.cond_text.proofs.LevelLaws.{or_read-frames}
+use Rattle.cond_text.proofs.reading.LevelLemmas.{or_read-frames}
 use Rattle.cond_text.proofs.levels.Conjunction.after_or.Goals as goal
 
 pub returns : goal.returns

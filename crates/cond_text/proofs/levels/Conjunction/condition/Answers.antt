@@ -1,7 +1,7 @@
 use Rattle.std.proofs.Common.{Some, ◌∙◌, ap}
 use Rattle.std.proofs.lemmas.Result.{IfOk-weaker}
 use Rattle.cond_text.specs.Levels.{outside, or_frames}
-use Rattle.cond_text.proofs.LevelLaws.{left_given}
+use Rattle.cond_text.proofs.reading.LevelLemmas.{left_given}
 use Rattle.cond_text.proofs.levels.Conjunction.condition.Goals as goal
 
 pub returns-in-Some : goal.returns-in-Some

@@ -1,11 +1,11 @@
 use Rattle.std.proofs.Common.{◌≡◌, length, ap, ◌∙◌, arith}
 use Rattle.std.proofs.lemmas.Bool.Decides.{nat_tests}
 use Rattle.std.proofs.lemmas.List.{nil_from_length}
-use Rattle.cond_syntax.specs.Machine as machine
-use Rattle.cond_syntax.specs.Machine.{whole}
+use Rattle.cond_text.specs.Machine as machine
+use Rattle.cond_text.specs.Machine.{whole}
 use Rattle.cond_text.specs.Drafts.{either_of}
 use Rattle.cond_text.specs.Levels.{outside, or_frames}
-use Rattle.cond_text.proofs.ReaderLaws.{place_done, AreOutside-some, AreOutside-none, whole-some, whole-none}
+use Rattle.cond_text.proofs.reading.ReaderLemmas.{place_done, AreOutside-some, AreOutside-none, whole-some, whole-none}
 use Rattle.cond_text.proofs.readers.Reader.end.Goals as goal
 
 pub returns-then-not-is_empty : goal.returns-then-not-is_empty

@@ -1,10 +1,10 @@
 use Rattle.std.proofs.Common.{◌∙◌, ap}
 use Rattle.gx_base.specs.Kinds.{kind_number}
-use Rattle.cond_syntax.specs.Machine.{step}
+use Rattle.cond_text.specs.Machine.{step}
 use Rattle.cond_text.specs.CodeTokens.{token_seen}
 use Rattle.cond_text.specs.Sources.{reading}
-use Rattle.cond_text.proofs.SourceLaws.{reading-none}
-use Rattle.cond_text.proofs.ReaderLaws.{place_due, place_done, taken_some, taken_none}
+use Rattle.cond_text.proofs.reading.SourceLemmas.{reading-none}
+use Rattle.cond_text.proofs.reading.ReaderLemmas.{place_due, place_done, taken_some, taken_none}
 use Rattle.cond_text.proofs.readers.Reader.take.Goals as goal
 
 pub returns-in-Due-clause-leads : goal.returns-in-Due-clause-leads

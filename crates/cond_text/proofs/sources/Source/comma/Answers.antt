@@ -1,8 +1,8 @@
 use Rattle.std.proofs.Common.{◌∙◌}
 use Rattle.std.proofs.lemmas.Result.{err_from_is_err_and}
 use Rattle.cond_text.specs.CodeTokens.{token_seen}
-use Rattle.cond_text.proofs.SourceLaws.{token_stops, other_stops}
-use Rattle.cond_text.proofs.TokenLaws.{comma_read-other}
+use Rattle.cond_text.proofs.reading.SourceLemmas.{token_stops, other_stops}
+use Rattle.cond_text.proofs.reading.TokenLemmas.{comma_read-other}
 use Rattle.cond_text.proofs.sources.Source.comma.Goals as goal
 
 pub returns-in_err-token-clause-leads : goal.returns-in_err-token-clause-leads

@@ -2,7 +2,7 @@ use Rattle.std.proofs.Common.{◌≡◌, ◌&&◌, refl, sym, arith}
 use Rattle.gx_base.specs.Kinds.{kind_number}
 use Rattle.cond_text.specs.CodeTokens.{token_seen}
 use Rattle.cond_text.specs.TokenSteps.{knows}
-use Rattle.cond_text.proofs.SourceLaws.{reading-after, words_known-after, words_known-end, tokens_ahead-end, reading-end, tokens_ahead-cut, reading-cut}
+use Rattle.cond_text.proofs.reading.SourceLemmas.{reading-after, words_known-after, words_known-end, tokens_ahead-end, reading-end, tokens_ahead-cut, reading-cut}
 use Rattle.cond_text.proofs.sources.Source.next.Goals as goal
 use Rattle.cond_text.proofs.sources.Source.next.Goals.{then-knows, else-knows}
 

@@ -3,16 +3,16 @@ use Rattle.gx_base.specs.Kinds.{kind_number}
 use Rattle.gx_base.specs.declared.acts.Entry.{Entry}
 use Rattle.gate_core.specs.Entries.{entries_of, others_than, has_entry, done_under}
 use Rattle.gate_core.specs.Views.{GateView}
-use Rattle.gate_core.proofs.Withdrawing.{gate_releases}
+use Rattle.gate_core.proofs.deeds.Withdrawing.{gate_releases}
 use Rattle.gate_core.proofs.gates.Gate.release.Goals as goal
 
 pub invariant_of-self : goal.invariant_of-self
 invariant_of-self g c =
-    let v : GateView = (record { kind = kind_number c.self.inside.kind; table = c.self.inside.table; state = g.T.SeqType.state c.self.inside.object; done = c.self.inside.done.items; live = c.self.inside.live.items; mark = c.self.inside.mark }) in
+    let v : GateView = (record { kind = kind_number c.self.inside.kind; table = c.self.inside.table; state = g.T.SeqType.state c.self.inside.object; done = c.self.inside.done.items; live = c.self.inside.live.entries.items; mark = c.self.inside.mark }) in
     let below : v.mark ≤ c.args.number = subst (λ (old : GateView). old.mark ≤ c.args.number) (sym c.self.view_is) c.requires.rises in
     gate_releases v (g.T.SeqType.has_room c.self.inside.object) (g.T.SeqType.has_room c.self.inside.object) (g.S.Screen.stands_for c.self.inside.screen) (g.S.Screen.stands_for c.leave.new.screen)
     (g.S.Screen.suits c.self.inside.screen) (g.S.Screen.suits c.leave.new.screen) (vec_capacity c.self.inside.done) (vec_capacity c.append_done-self-inside.new.done) c.self.invariant
-    c.args.worker c.args.iter c.args.number c.append_done-self-inside.new.done.items c.keep_others.new.live.items c.append_done-self-inside.result below
+    c.args.worker c.args.iter c.args.number c.append_done-self-inside.new.done.items c.keep_others.new.self.entries.items c.append_done-self-inside.result below
     (c.append_done-self-inside.ensures.done ∙ ap (λ (xs : List Entry). c.self.inside.done.items ++ done_under c.args.number (entries_of c.args.worker c.args.iter xs)) c.as_slice-2.ensures.value)
     c.keep_others.ensures
     (c.append_done-self-inside.ensures.mark ∙ ap (λ (xs : List Entry). if has_entry c.args.worker c.args.iter xs then c.args.number + 1 else c.self.inside.mark) c.as_slice-2.ensures.value)

@@ -1,8 +1,8 @@
 use Rattle.std.proofs.Common.{◌++◌, ◌∷◌, []}
 use Rattle.gx_base.specs.TableRows.{row_of}
 use Rattle.gate_core.specs.Replays.{start_of}
-use Rattle.gate_core.proofs.PlainTables.{sees_first_alone}
-use Rattle.gate_core.proofs.ScanLemmas.{saw_front}
+use Rattle.gate_core.proofs.scans.PlainTables.{sees_first_alone}
+use Rattle.gate_core.proofs.scans.ScanLemmas.{saw_front}
 use Rattle.gate_core.proofs.scanning.ScanScreenScreen.first_failing.Goals as goal
 
 pub scan-requires : goal.scan-requires

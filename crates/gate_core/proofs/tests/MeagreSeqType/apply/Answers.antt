@@ -1,5 +1,5 @@
 use Rattle.std.proofs.Common.{◌<◌, arith, sym}
-use Rattle.gate_core.proofs.EmptySets.{quiet}
+use Rattle.gate_core.proofs.objects.EmptySets.{quiet}
 use Rattle.gate_core.proofs.tests.MeagreSeqType.apply.Goals as goal
 
 pub returns-clause-reply : goal.returns-clause-reply

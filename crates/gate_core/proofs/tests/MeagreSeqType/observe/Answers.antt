@@ -1,4 +1,4 @@
-use Rattle.gate_core.proofs.EmptySets.{unseen}
+use Rattle.gate_core.proofs.objects.EmptySets.{unseen}
 use Rattle.gate_core.proofs.tests.MeagreSeqType.observe.Goals as goal
 
 pub returns : goal.returns

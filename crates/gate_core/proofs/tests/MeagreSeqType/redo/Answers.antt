@@ -1,5 +1,5 @@
 use Rattle.std.proofs.Common.{◌<◌, sym, rules, tests}
-use Rattle.gate_core.proofs.EmptySets.{quiet}
+use Rattle.gate_core.proofs.objects.EmptySets.{quiet}
 use Rattle.gate_core.proofs.tests.MeagreSeqType.redo.Goals as goal
 
 pub returns-clause-state : goal.returns-clause-state

@@ -1,6 +1,6 @@
 use Rattle.std.proofs.Common.{sym, ◌∙◌}
 use Rattle.cond_syntax.specs.TableTexts.{skipped}
-use Rattle.cond_text.proofs.RowFaults.{no_line}
+use Rattle.cond_text.proofs.texts.RowFaults.{no_line}
 use Rattle.cond_text.proofs.tables.reader.Reader.read_line.Goals as goal
 
 pub returns-then-is_skipped-clause-read : goal.returns-then-is_skipped-clause-read

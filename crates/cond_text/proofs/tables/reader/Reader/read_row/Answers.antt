@@ -1,4 +1,4 @@
-use Rattle.cond_text.proofs.RowFaults.{row_untyped}
+use Rattle.cond_text.proofs.texts.RowFaults.{row_untyped}
 use Rattle.cond_text.proofs.tables.reader.Reader.read_row.Goals as goal
 
 pub returns-in-Untyped-clause-fault : goal.returns-in-Untyped-clause-fault

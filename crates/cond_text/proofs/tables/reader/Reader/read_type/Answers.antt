@@ -1,6 +1,6 @@
 use Rattle.std.proofs.Common.{sym, ◌∙◌}
 use Rattle.std.proofs.lemmas.Bool.{false≢true}
-use Rattle.cond_text.proofs.RowFaults.{unnamed_kind, unwanted_kind, second_kind, first_kind}
+use Rattle.cond_text.proofs.texts.RowFaults.{unnamed_kind, unwanted_kind, second_kind, first_kind}
 use Rattle.cond_text.proofs.tables.reader.Reader.read_type.Goals as goal
 
 pub returns-in_default-clause-fault : goal.returns-in_default-clause-fault

@@ -1,4 +1,4 @@
-use Rattle.cond_text.proofs.PairLaws.{none_placed}
+use Rattle.cond_text.proofs.texts.PairLemmas.{none_placed}
 use Rattle.cond_text.proofs.tables.rows.Rows.new.Goals as goal
 
 pub invariant_of-result : goal.invariant_of-result

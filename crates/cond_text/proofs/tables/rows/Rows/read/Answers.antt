@@ -2,7 +2,7 @@ use Rattle.std.proofs.lemmas.Result.{err_from_is_err_and}
 use Rattle.cond_syntax.specs.Tokens.{tokens_of}
 use Rattle.cond_text.specs.Found.{IsFound}
 use Rattle.cond_text.specs.declared.conditions.Found.TheVariants.{Malformed, UnknownWord, TooDeep, Known}
-use Rattle.cond_text.proofs.RowFaults.{malformed_row, unknown_methods, unknown_words, too_deep_row, no_place, next_row}
+use Rattle.cond_text.proofs.texts.RowFaults.{malformed_row, unknown_methods, unknown_words, too_deep_row, no_place, next_row}
 use Rattle.cond_text.proofs.tables.rows.Rows.read.Goals as goal
 
 pub returns-in_err-methods_named-in-UnknownWord-clause-fault : goal.returns-in_err-methods_named-in-UnknownWord-clause-fault

@@ -1,0 +1,3 @@
+pub mod GradeLemmas
+pub mod Greatest
+pub mod TableLemmas

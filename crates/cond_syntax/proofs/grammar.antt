@@ -1,0 +1,4 @@
+pub mod FrontLemmas
+pub mod KnownWords
+pub mod OneTree
+pub mod SmallNumbers

@@ -1,0 +1,2 @@
+pub mod MethodNames
+pub mod PrintedRows

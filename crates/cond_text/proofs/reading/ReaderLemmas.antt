@@ -1,0 +1,97 @@
+-- What tokens lead to, and the levels of open parentheses.
+use Rattle.std.proofs.Common.{◌≡◌, ℕ, List, [], ◌∷◌, ◌++◌, Option, Some, None, Result, Ok, Err, reverse, refl, ap, sym, ◌∙◌}
+use Rattle.std.proofs.lemmas.List.{reverse-append, reverse-reverse}
+use Rattle.cond_text.specs.Machine.{State, Frame, operand_read, conjunction_read, First, Operand, whole, whole_or_wrong}
+use Rattle.cond_text.specs.Machine as machine
+use Rattle.cond_syntax.specs.Written.{Written}
+use Rattle.cond_text.specs.CodeTokens.{token_seen}
+use Rattle.cond_text.specs.Comparisons.{term_begun}
+use Rattle.cond_text.specs.Drafts.{either_of}
+use Rattle.cond_text.specs.Levels.{IsLevel, LeadsLevel, LeadsConjunction, outside, or_frames}
+use Rattle.cond_text.specs.Readers.{AreOutside, IsPlace, IsRead, IsTaken, IsEnded, IsReadWhole, unit_begun}
+use Rattle.cond_text.specs.Sources.{reading, Stops, IsStoppedAt, IsAtEnd}
+use Rattle.gx_base.specs.Kinds.{kind_number}
+use Rattle.cond_text.specs.declared.drafts.Draft.{Draft}
+use Rattle.cond_text.specs.declared.sources.Source.{Source}
+use Rattle.cond_text.specs.declared.sources.Stop.{Stop}
+use Rattle.cond_text.specs.declared.sources.Stop.TheVariants.{Wrong, Cut, NoMemory}
+use Rattle.cond_text.specs.declared.levels.Conjunction.{Conjunction}
+use Rattle.cond_text.specs.declared.readers.Place.{Place}
+use Rattle.cond_text.specs.declared.readers.Place.TheVariants.{Due, Done}
+use Rattle.cond_text.specs.declared.readers.Reader.{Reader}
+use Rattle.cond_text.specs.declared.levels.Level.{Level}
+use Rattle.cond_text.specs.declared.tokens.Token.{Token}
+use Rattle.cond_text.specs.declared.tokens.Token.TheVariants.{OrKey, AndKey, NotKey, TrueKey, FalseKey, Open, Close}
+
+pub operand_read-other : (frames : List Frame) (t : Token) → (t ≡ NotKey → ⊥) → (t ≡ Open → ⊥) → operand_read frames (token_seen t) ≡ unit_begun frames (token_seen t)
+operand_read-other frames NotKey isnt isnt' = absurd (isnt refl)
+operand_read-other frames Open isnt isnt' = absurd (isnt' refl)
+operand_read-other frames _ isnt isnt' = refl
+
+pub unit_begun-other : (frames : List Frame) (t : Token) → (t ≡ TrueKey → ⊥) → (t ≡ FalseKey → ⊥) → unit_begun frames (token_seen t) ≡ term_begun First frames (token_seen t)
+unit_begun-other frames TrueKey isnt isnt' = absurd (isnt refl)
+unit_begun-other frames FalseKey isnt isnt' = absurd (isnt' refl)
+unit_begun-other frames _ isnt isnt' = refl
+
+pub conjunction_read-other : (last : Written) (frames : List Frame) (t : Token) → (t ≡ AndKey → ⊥) → (t ≡ OrKey → ⊥) → (t ≡ Close → ⊥) → conjunction_read last frames (token_seen t) ≡ None
+conjunction_read-other last frames AndKey and or close = absurd (and refl)
+conjunction_read-other last frames OrKey and or close = absurd (or refl)
+conjunction_read-other last frames Close and or close = absurd (close refl)
+conjunction_read-other last frames _ and or close = refl
+
+-- ---- the levels of open parentheses
+
+pub AreOutside-push : (kind : ℕ) (levels : List Level) (level : Level) (base : Option (List Frame)) (frames : List Frame) → AreOutside kind (reverse levels) base → IsLevel kind level base frames → AreOutside kind (reverse (levels ++ level ∷ [])) (Some frames)
+AreOutside-push kind levels level base frames outer is = rw (reverse-append levels (level ∷ [])) (frames, base, refl, is, outer)
+
+pub AreOutside-pop : (kind : ℕ) (levels rest : List Level) (level : Level) (base : Option (List Frame)) → levels ≡ rest ++ level ∷ [] → AreOutside kind (reverse levels) base → AreOutside kind (level ∷ reverse rest) base
+AreOutside-pop kind levels rest level base is outer =
+    let turned : reverse levels ≡ level ∷ reverse rest = ap reverse is ∙ reverse-append rest (level ∷ []) in
+    rw turned at outer
+
+pub AreOutside-none : (kind : ℕ) (levels : List Level) (base : Option (List Frame)) → levels ≡ [] → AreOutside kind (reverse levels) base → base ≡ None
+AreOutside-none kind levels base none outer =
+    let turned : reverse levels ≡ [] = ap reverse none in
+    rw turned at outer
+
+outside_some : (kind : ℕ) (levels : List Level) (base : Option (List Frame)) → AreOutside kind levels base → (levels ≡ [] → ⊥) → (frames : List Frame) × (base ≡ Some frames)
+outside_some kind [] base outer some = absurd (some refl)
+outside_some kind (level ∷ levels) base outer some = (outer.0, outer.2)
+
+pub AreOutside-some : (kind : ℕ) (levels : List Level) (base : Option (List Frame)) → (levels ≡ [] → ⊥) → AreOutside kind (reverse levels) base → (frames : List Frame) × (base ≡ Some frames)
+AreOutside-some kind levels base some outer = outside_some kind (reverse levels) base outer (λ none. some (sym (reverse-reverse levels) ∙ ap reverse none))
+
+-- ---- what has been read inside of the innermost one
+
+pub place_due : (kind : ℕ) (base : Option (List Frame)) (place : Place) (state : State) (level : Level) → IsPlace kind base place state → place ≡ Due level → LeadsLevel kind base state level
+place_due kind base place state level is due = rw due at is
+
+pub place_done : (kind : ℕ) (base : Option (List Frame)) (place : Place) (state : State) (conjunction : Conjunction) → IsPlace kind base place state → place ≡ Done conjunction → LeadsConjunction kind base state conjunction
+place_done kind base place state conjunction is done = rw done at is
+
+pub whole-some : (or_left : Option Written) (frames : List Frame) (last : Written) → whole (machine.Done last (or_frames or_left (outside (Some frames)))) ≡ None
+whole-some (Some left) frames last = refl
+whole-some None frames last = refl
+
+pub whole-none : (or_left : Option Written) (last : Written) → whole (machine.Done last (or_frames or_left (outside None))) ≡ Some (either_of or_left last)
+whole-none (Some left) last = refl
+whole-none None last = refl
+
+pub taken_some : (kind : ℕ) (state : Option State) (taken : Option Reader) (reader : Reader) → IsTaken kind state taken → taken ≡ Some reader → (next : State) × IsRead kind reader next × (state ≡ Some next)
+taken_some kind state taken reader is some = rw some at is
+
+pub taken_none : (kind : ℕ) (state : Option State) (taken : Option Reader) → IsTaken kind state taken → taken ≡ None → state ≡ None
+taken_none kind state taken is none = rw none at is
+
+-- ---- the end of reading
+
+pub stops_whole : (old now new : Source) (state : Option State) (stop : Stop) → reading (Some (Operand [])) old ≡ reading state now → Stops now state stop → IsStoppedAt new stop → IsReadWhole old new (Err stop)
+stops_whole old now new state Wrong same stops at = same ∙ stops
+stops_whole old now new state Cut same stops at = (same ∙ stops, at)
+stops_whole old now new state NoMemory same stops at = tt
+
+pub ended_whole : (old new : Source) (given : Option Written) (result : Result Draft Stop) → reading (Some (Operand [])) old ≡ whole_or_wrong given → IsAtEnd new → IsEnded (kind_number old.kind) given result → IsReadWhole old new result
+ended_whole old new given (Ok draft) is at ended = (ended.0, ended.1, is ∙ ap whole_or_wrong ended.2, at)
+ended_whole old new given (Err Wrong) is at ended = is ∙ ap whole_or_wrong ended
+ended_whole old new given (Err Cut) is at ended = absurd ended
+ended_whole old new given (Err NoMemory) is at ended = tt

@@ -1,0 +1,101 @@
+-- What is read after one token, and after what stops.
+use Rattle.std.proofs.Common.{◌≡◌, Bool, true, false, ◌&&◌, List, [], ◌∷◌, Option, Some, None, refl, ap, ◌∙◌, arith}
+use Rattle.gx_base.specs.Kinds.{kind_number}
+use Rattle.cond_syntax.specs.Tokens as plain
+use Rattle.cond_syntax.specs.Tokens.{tokens_of}
+use Rattle.cond_text.specs.Machine as machine
+use Rattle.cond_text.specs.Machine.{State, run, step, ended, whole, whole_or_wrong}
+use Rattle.cond_syntax.specs.Fronts.{is_cut_from, all_known}
+use Rattle.cond_text.specs.TokenSteps.{opened_after, inside_after, knows}
+use Rattle.cond_text.specs.Sources.{reading, words_known, tokens_ahead, IsLater, Stops, StopsToken}
+use Rattle.cond_text.specs.declared.sources.Stop.{Stop}
+use Rattle.cond_text.specs.declared.sources.Stop.TheVariants.{Wrong, Cut, NoMemory}
+use Rattle.cond_text.specs.declared.sources.Source.{Source}
+use Rattle.cond_text.proofs.reading.TokenLemmas.{front_from-next, is_cut_from-next, front_from-cut, is_cut_from-cut, all_known-next}
+
+-- the second source is the first after a token
+pub record IsAfter (old : Source) (t : plain.Token) (new : Source) : Type 0 where
+  pub token : tokens_of old.rest.now ≡ t ∷ tokens_of new.rest.now
+  pub opened : opened_after old.opened t ≡ Some new.opened
+  pub kind : new.kind ≡ old.kind
+  pub inside : new.inside ≡ inside_after old.inside t
+  pub all_known : new.all_known ≡ knows (kind_number old.kind) old.inside t && old.all_known
+
+pub reading-after : (old new : Source) (t : plain.Token) → IsAfter old t new → (state : State) → reading (Some state) old ≡ reading (step state t) new
+unfolding reading
+reading-after old new t after state =
+    let front : tokens_ahead old ≡ t ∷ tokens_ahead new = rw after.token (front_from-next old.opened new.opened t (tokens_of new.rest.now) after.opened) in
+    let cut : is_cut_from old.opened (tokens_of old.rest.now) ≡ is_cut_from new.opened (tokens_of new.rest.now) = rw after.token (is_cut_from-next old.opened new.opened t (tokens_of new.rest.now) after.opened) in
+    rw (front, cut)
+
+and-turned : (a b c : Bool) → a && (b && c) ≡ (b && a) && c
+and-turned true true c = refl
+and-turned true false c = refl
+and-turned false true c = refl
+and-turned false false c = refl
+
+pub words_known-after : (old new : Source) (t : plain.Token) → IsAfter old t new → words_known old ≡ words_known new
+unfolding words_known
+words_known-after old new t after =
+    let front : tokens_ahead old ≡ t ∷ tokens_ahead new = rw after.token (front_from-next old.opened new.opened t (tokens_of new.rest.now) after.opened) in
+    let next = all_known-next (kind_number old.kind) old.inside t (tokens_ahead new) in
+    let turned = and-turned old.all_known (knows (kind_number old.kind) old.inside t) (all_known (kind_number old.kind) (inside_after old.inside t) (tokens_ahead new)) in
+    rw (front, next, turned, after.all_known, after.inside, after.kind)
+
+and-true : (a : Bool) → a && true ≡ a
+and-true true = refl
+and-true false = refl
+
+-- no token is ahead
+pub words_known-end : (source : Source) → tokens_ahead source ≡ [] → words_known source ≡ source.all_known
+unfolding words_known
+words_known-end source ahead = rw ahead (and-true source.all_known)
+
+pub tokens_ahead-end : (source : Source) → tokens_of source.rest.now ≡ [] → tokens_ahead source ≡ []
+tokens_ahead-end source is = rw is
+
+pub reading-end : (source : Source) → tokens_of source.rest.now ≡ [] → (state : State) → reading (Some state) source ≡ whole_or_wrong (whole state)
+unfolding reading
+reading-end source is state = rw is
+
+pub tokens_ahead-cut : (source : Source) (t : plain.Token) (ts : List plain.Token) → tokens_of source.rest.now ≡ t ∷ ts → opened_after source.opened t ≡ None → tokens_ahead source ≡ []
+tokens_ahead-cut source t ts is cut = rw is (front_from-cut source.opened t ts cut)
+
+pub reading-cut : (source : Source) (t : plain.Token) (ts : List plain.Token) → tokens_of source.rest.now ≡ t ∷ ts → opened_after source.opened t ≡ None → (state : State) → reading (Some state) source ≡ machine.Cut
+unfolding reading
+reading-cut source t ts is cut state = rw (is, front_from-cut source.opened t ts cut, is_cut_from-cut source.opened t ts cut)
+
+run-none : (ts : List plain.Token) → run None ts ≡ None
+run-none [] = refl
+run-none (t ∷ ts) = refl
+
+pub reading-none : (source : Source) → reading None source ≡ machine.Wrong
+unfolding reading
+reading-none source = rw (run-none (tokens_ahead source))
+
+-- ---- what stops
+
+-- a token that isn't there ends what isn't whole
+pub token_stops : (source : Source) (state : State) (stop : Stop) → whole state ≡ None → StopsToken source state stop → Stops source (Some state) stop
+token_stops source state Wrong part is = is ∙ ap whole_or_wrong part
+token_stops source state Cut part is = is
+token_stops source state NoMemory part is = tt
+
+-- a token that can't stand there
+pub other_stops : (old new : Source) (state : State) (after : Option State) → reading (Some state) old ≡ reading after new → after ≡ None → reading (Some state) old ≡ machine.Wrong
+other_stops old new state after same none = same ∙ ap (λ s. reading s new) none ∙ reading-none new
+
+-- what stops a part stops the whole
+pub part_stops : (old middle : Source) (first second : Option State) (stop : Stop) → reading first old ≡ reading second middle → Stops middle second stop → Stops old first stop
+part_stops old middle first second Wrong same is = same ∙ is
+part_stops old middle first second Cut same is = same ∙ is
+part_stops old middle first second NoMemory same is = tt
+
+-- ---- one part after another
+
+pub IsLater-then : (old middle new : Source) → IsLater old middle → IsLater middle new → IsLater old new
+IsLater-then old middle new first second = record {
+  kind = second.kind ∙ first.kind;
+  known = first.known ∙ second.known;
+  shorter = omega arith;
+}

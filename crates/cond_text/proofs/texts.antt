@@ -1,0 +1,4 @@
+pub mod LineSteps
+pub mod OneAnswer
+pub mod PairLemmas
+pub mod RowFaults

@@ -1,0 +1,2 @@
+pub mod KeptLawful
+pub mod GateLaws

@@ -1,0 +1,4 @@
+pub mod StateTerms
+pub mod Swapping
+pub mod Leaving
+pub mod Failing

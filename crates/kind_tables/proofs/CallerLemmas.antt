@@ -1,0 +1,2 @@
+-- What the proofs of other crates may use of this one.
+pub use Rattle.kind_tables.proofs.kinds.AllKinds.{tables_of-SuitKind}

@@ -1,0 +1,4 @@
+pub mod swapping
+pub mod kinds
+pub mod classes
+pub mod CallerLemmas

@@ -1,0 +1,9 @@
+pub mod TableFacts
+pub mod SetLaws
+pub mod RegisterLaws
+pub mod CellsLaws
+pub mod FlowLaws
+pub mod NearestPoints
+pub mod PointLaws
+pub mod DomainLaws
+pub mod AllKinds

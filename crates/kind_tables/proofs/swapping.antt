@@ -1,0 +1,4 @@
+pub mod Effects
+pub mod ActSwaps
+pub mod UseSwaps
+pub mod Validity

@@ -1,0 +1,9 @@
+pub mod PairConditions
+pub mod SetTables
+pub mod RegisterTables
+pub mod CellsTables
+pub mod FlowTables
+pub mod PointTables
+pub mod DomainTables
+pub mod TablesOfKinds
+pub mod Classes

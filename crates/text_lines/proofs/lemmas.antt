@@ -1,0 +1,5 @@
+pub mod CleanLines
+pub mod DecimalLemmas
+pub mod FieldLemmas
+pub mod LineLemmas
+pub mod NumberLemmas
