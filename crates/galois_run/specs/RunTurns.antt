@@ -7,7 +7,7 @@ use Rattle.gx_base.specs.States.{State}
 use Rattle.gx_base.specs.TableRows.{RowMap, row_of}
 use Rattle.gx_base.specs.Worklists.{with_items}
 use Rattle.cond_syntax.specs.TableTexts.{Fault, IsTableText, IsFirstFault}
-use Rattle.commit_book.specs.declared.operator.Commit.{Commit}
+use Rattle.gx_base.specs.declared.acts.Commit.{Commit}
 use Rattle.galois_run.specs.declared.run_faults.RunFault.{RunFault}
 use Rattle.galois_run.specs.declared.run_faults.RunFault.TheVariants as faults
 use Rattle.galois_run.specs.declared.status.Status.{Status}

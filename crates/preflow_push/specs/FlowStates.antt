@@ -3,9 +3,6 @@ use Rattle.std.specs.Prelude.{ℕ, ℤ}
 use Rattle.gx_base.specs.States.{State, number_at}
 use Rattle.preflow_push.specs.FlowCalls.{room_of}
 
-abbrev pub height_in : (ℕ → State) → ℤ → ℤ
-height_in states node = number_at (states (room_of node)) (0, node)
-
 abbrev pub excess_in : (ℕ → State) → ℤ → ℤ
 excess_in states node = number_at (states (room_of node)) (1, node)
 

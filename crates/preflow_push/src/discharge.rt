@@ -8,12 +8,12 @@ ghost use Rattle.preflow_push.specs.Discharge.{names_node, node_item, residual, 
 ghost use Rattle.preflow_push.specs.Networks.{view};
 ghost use Rattle.preflow_push.specs.Stages.{value_of_reply};
 
-use commit_book::Operator;
 use crate::flow_calls::{EXCESS, FLOW, GAIN, HEIGHT, RELABEL, SEND, call_act, node_item};
 use crate::network::Network;
-use crate::stages::{Stage, Walk};
 use crate::rooms::ROOMS;
+use crate::stages::{Stage, Walk};
 use crate::touches::{Touch, Touches};
+use commit_book::Operator;
 use gx_base::{Act, Item, NoMemory, Reply};
 use std::alloc::Global;
 

@@ -1,8 +1,8 @@
 //! A network of four nodes, worked by hand.
 
-use commit_book::{Commit, Operator};
 use crate::flow_calls::{EXCESS, FLOW, GAIN, HEIGHT, RELABEL, SEND, node_item};
 use crate::{Arc, Discharge, Network, report, start};
+use commit_book::{Commit, Operator};
 use flow_graph::FlowShard;
 use gx_base::{Act, Call, Item, NoMemory, Reply, SeqType};
 use std::alloc::Global;

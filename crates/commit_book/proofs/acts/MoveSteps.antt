@@ -2,10 +2,9 @@
 use Rattle.std.proofs.Common.{◌≡◌, ℕ, ◌<◌, ◌≤◌, Bool, true, false, if◌then◌else◌, Option, Some, None, refl, sym, subst, arith}
 use Rattle.gx_base.specs.declared.calls.Call.{Call as CallOf}
 use Rattle.gx_base.specs.declared.calls.Reply.{Reply}
-use Rattle.gx_base.specs.declared.items.Item.{Item}
 use Rattle.gx_base.specs.declared.acts.Act.{Act}
 use Rattle.gx_base.specs.declared.acts.Act.TheVariants as acts
-use Rattle.gx_base.specs.Plans.{Plan, Call, Push, Done, IsInRoom, FallsUnlessDone}
+use Rattle.gx_base.specs.Plans.{Plan, Call, Done, IsInRoom, FallsUnlessDone}
 use Rattle.commit_book.specs.Moves.{Moves}
 
 falls_more : (act : Act) (m n k : ℕ) → m ≤ n → FallsUnlessDone act m k → FallsUnlessDone act n k
@@ -14,7 +13,7 @@ falls_more (acts.Push item) m n k le falls = omega arith
 falls_more acts.Done m n k le falls = tt
 
 module _ {St : Type 0} {rooms : ℕ} {rest : St → Option Reply → Plan} {to_go : St → ℕ} where
-  -- ---- the three acts
+  -- ---- the acts
 
   pub moves_by_call : (room : ℕ) (call : CallOf) (goes_on : Reply → Plan) (bound : ℕ) (act : Act) (now : St)
       → act ≡ acts.Call room call → room < rooms → ((reply : Reply) → rest now (Some reply) ≡ goes_on reply) → to_go now < bound
@@ -24,10 +23,6 @@ module _ {St : Type 0} {rooms : ℕ} {rest : St → Option Reply → Plan} {to_g
     room = subst (IsInRoom rooms) (sym e) within;
     falls = subst (λ (a : Act). FallsUnlessDone a bound (to_go now)) (sym e) falls;
   }
-
-  pub moves_by_push : (item : Item) (plan : Plan) (bound : ℕ) (now : St) → rest now None ≡ plan → to_go now < bound
-      → Moves rooms rest to_go (Push item plan) bound (acts.Push item) now
-  moves_by_push item plan bound now left falls = record { follows = (refl, left); room = tt; falls = falls }
 
   pub moves_to_end : (bound : ℕ) (now : St) → Moves rooms rest to_go Done bound acts.Done now
   moves_to_end bound now = record { follows = refl; room = tt; falls = tt }

@@ -85,13 +85,6 @@ commits_one op before now after ready left more told longer item steps iter o r 
       };
     }
 
-pub whole_of : (op : Operator) (before now : ℕ → State) (ready left : List Item) (told : List Counted) → IsRunSoFar op before ready told left now → length told ≤ most_commits → left ≡ [] → IsWholeRun op before ready told now
-whole_of op before now ready left told r w e = record {
-  outcomes = r.outcomes;
-  within = w;
-  run = subst (λ (xs : List Item). IsLeastFirstRun op before ready told (record { states = now; ready = xs; outcomes = r.outcomes })) e r.run;
-}
-
 -- where an item is ready, some are
 ready_by : (left : List Item) (item : Item) → has_item left item ≡ true → left ≡ [] → ⊥
 unfolding has_item

@@ -5,7 +5,7 @@ use Rattle.gx_base.specs.declared.items.Item.{Item}
 use Rattle.gx_base.specs.States.{State}
 use Rattle.gx_base.specs.Plans.{Plan, Operator}
 use Rattle.gx_base.specs.Worklists.{with_items}
-use Rattle.commit_book.specs.declared.operator.Commit.{Commit}
+use Rattle.gx_base.specs.declared.acts.Commit.{Commit}
 use Rattle.commit_book.specs.Commits.{items_of}
 use Rattle.commit_book.specs.SerialRuns.{IsWholeRun, IsUnfinished}
 use Rattle.preflow_push.specs.FlowCalls.{rooms}

@@ -44,9 +44,6 @@ same_arcs (d ∷ done) (a ∷ arcs) e =
     let rest : done ≡ arcs = same_arcs done arcs others in
     cc
 
-pub all_told : (saids : List Said) (done arcs : List Arc) (nodes : ℤ) (count : ℕ) → saids ≡ map says.Arc done ++ [] → HasArcs saids nodes count arcs → length done ≡ count
-all_told saids done arcs nodes count e h = ap length (same_arcs done arcs (sym (append-nil (map says.Arc done)) ∙ sym e ∙ h.spelt)) ∙ h.count_is
-
 arc_more : (done : List Arc) (arc : Arc) (more : List Said) → map says.Arc done ++ says.Arc arc ∷ more ≡ map says.Arc (done ++ arc ∷ []) ++ more
 arc_more [] arc more = refl
 arc_more (d ∷ done) arc more = ap (λ (saids : List Said). says.Arc d ∷ saids) (arc_more done arc more)

@@ -19,9 +19,10 @@ returns-in-Ok-clause-reported c =
     (c.deref-in-Ok-2.ensures.value ∙ front c.in_ok-shards.shards.len c.run_serially.new.rooms _ (omega arith)))
 
 pub returns-in-Err-Spent-clause-unfinished : goal.returns-in-Err-Spent-clause-unfinished
-returns-in-Err-Spent-clause-unfinished c e =
-    (in_rooms (map state_of c.run_serially.new.rooms),
-    unfinished (view c.args.net.now) (plan_of c.in_ok-operator.operator) (in_rooms (map state_of c.deref_mut.result.now)) c.deref.result.now (in_rooms (map state_of c.run_serially.new.rooms))
-    c.in_ok-operator.ensures
-    (ap (λ shards. in_rooms (map state_of shards)) c.deref_mut.ensures.value ∙ c.in_ok-shards.ensures.states)
-    (c.deref.ensures.value ∙ c.in_ok-shards.ensures.ready) (c.run_serially.ensures.spent (cc)))
+returns-in-Err-Spent-clause-unfinished c e = (
+  in_rooms (map state_of c.run_serially.new.rooms),
+  unfinished (view c.args.net.now) (plan_of c.in_ok-operator.operator) (in_rooms (map state_of c.deref_mut.result.now)) c.deref.result.now (in_rooms (map state_of c.run_serially.new.rooms))
+      c.in_ok-operator.ensures
+      (ap (λ shards. in_rooms (map state_of shards)) c.deref_mut.ensures.value ∙ c.in_ok-shards.ensures.states)
+      (c.deref.ensures.value ∙ c.in_ok-shards.ensures.ready) (c.run_serially.ensures.spent (cc)),
+)
