@@ -27,12 +27,12 @@ fn class_word(grade: Grade) -> &'static str
 }
 
 /// Puts the line of two methods, a class and a row.
-fn put_words(
+fn put_words<'a>(
     text: &mut Vec<u8>,
-    first: &str,
-    second: &str,
-    class: &str,
-    row: &str,
+    first: &'a str,
+    second: &'a str,
+    class: &'a str,
+    row: &'a str,
 ) -> Result<(), AllocError>
     ensures { OnOk result (text.new.items ≡ text.old.items ++ line (codes "row" ∷ first.now ∷ second.now ∷ class.now ∷ row.now ∷ [])) }
 {

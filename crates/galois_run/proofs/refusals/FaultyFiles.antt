@@ -60,9 +60,9 @@ text_told wanted bytes NoMemoryForText line told tells = record { only = λ e. a
 pub text_refused : {A : Type 0} (bytes : List ℕ) (wanted kinds : List Kind) (refused : TextFault) (line : ℕ) (fault : RunFault) → wanted ≡ kinds → fault ≡ fault_of_text refused
     → IsTold (IsFirstFault wanted bytes) refused → ((l : ℕ) (f : Fault) → IsFirstFault wanted bytes l f → TellsOf refused l f)
     → FaultsWhere {A = A} (IsFaultyTable kinds bytes line) (BadInput line) (Err fault)
-text_refused bytes wanted kinds refused line fault e is told tells =
-    subst (λ (these : List Kind). FaultsWhere (IsFaultyTable these bytes line) (BadInput line) (Err fault)) e
-    (subst (λ (f : RunFault). FaultsWhere (IsFaultyTable wanted bytes line) (BadInput line) (Err f)) (sym is) (text_told wanted bytes refused line told tells))
+text_refused {A} bytes wanted kinds refused line fault e is told tells =
+    subst (λ (these : List Kind). FaultsWhere {A = A} (IsFaultyTable these bytes line) (BadInput line) (Err fault)) e
+    (subst (λ (f : RunFault). FaultsWhere {A = A} (IsFaultyTable wanted bytes line) (BadInput line) (Err f)) (sym is) (text_told wanted bytes refused line told tells))
 
 -- a text that is read has no first fault, and its report is that of its rows
 pub text_reported : {A : Type 0} (bytes : List ℕ) (wanted kinds : List Kind) (line : ℕ) (text : A) → wanted ≡ kinds → ((l : ℕ) (f : Fault) → IsFirstFault wanted bytes l f → ⊥)
