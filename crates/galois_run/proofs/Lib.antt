@@ -1,15 +1,2 @@
-pub mod FlowFileLaws
-pub mod DischargeMoves
-pub mod ReadySets
-pub mod Rooms
-pub mod BodySteps
-pub mod SerialSteps
-pub mod LeastFirst
-pub mod FlowLineSteps
-pub mod FlowRooms
-pub mod RunCauses
-pub mod Refusals
-pub mod FaultyFiles
-pub mod FlowWrites
-pub mod FlowPours
-pub mod ReadyNodes
+pub mod refusals
+pub mod runs

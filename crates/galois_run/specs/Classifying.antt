@@ -11,7 +11,7 @@ use Rattle.cond_lattice.specs.declared.grades.Grade.{Grade}
 use Rattle.cond_lattice.specs.declared.grades.Grade.TheVariants.{Simple, Online, General}
 use Rattle.cond_lattice.specs.Grades.{grade_of}
 use Rattle.cond_syntax.specs.Printing.{condition_text}
-use Rattle.galois_run.specs.ReportLines.{line}
+use Rattle.line_writer.specs.Lines.{line}
 
 -- a table of any kind is read
 abbrev pub all_kinds : List Kind

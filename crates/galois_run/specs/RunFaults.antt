@@ -4,7 +4,7 @@ use Rattle.cond_text.specs.declared.faults.TextFault.TheVariants.{Syntax, Unknow
 use Rattle.galois_run.specs.declared.run_faults.RunFault.{RunFault}
 use Rattle.galois_run.specs.declared.run_faults.RunFault.TheVariants.{BadInput, NoMemory}
 
--- whatever is wrong with a text, its line is told
+-- whatever is wrong with the text of the file that a command reads, its line is told
 abbrev pub fault_of_text : TextFault → RunFault
 fault_of_text (Syntax line) = BadInput line
 fault_of_text (UnknownMethod line) = BadInput line

@@ -7,19 +7,21 @@ use Rattle.gx_base.specs.States.{State}
 use Rattle.gx_base.specs.TableRows.{RowMap, row_of}
 use Rattle.gx_base.specs.Worklists.{with_items}
 use Rattle.cond_syntax.specs.TableTexts.{Fault, IsTableText, IsFirstFault}
-use Rattle.galois_run.specs.declared.commit_book.operator.Commit.{Commit}
+use Rattle.gx_base.specs.declared.acts.Commit.{Commit}
 use Rattle.galois_run.specs.declared.run_faults.RunFault.{RunFault}
 use Rattle.galois_run.specs.declared.run_faults.RunFault.TheVariants as faults
 use Rattle.galois_run.specs.declared.status.Status.{Status}
 use Rattle.galois_run.specs.declared.status.Status.TheVariants.{Ok, BadInput, ReadFault, WriteFault, NoMemory, TooLarge, Spent, Kept, BadTable}
 use Rattle.galois_run.specs.declared.words.Command.{Command}
 use Rattle.galois_run.specs.declared.words.Command.TheVariants.{Flow, Classify}
-use Rattle.galois_run.specs.SerialRuns.{items_of, IsWholeRun, IsSpent}
-use Rattle.galois_run.specs.Networks.{Net}
-use Rattle.galois_run.specs.FlowFiles.{IsFlowFile}
-use Rattle.galois_run.specs.Discharge.{discharge_operator}
-use Rattle.galois_run.specs.Starts.{start_states, start_ready}
-use Rattle.galois_run.specs.FlowReports.{flow_report}
+use Rattle.commit_book.specs.Commits.{items_of}
+use Rattle.commit_book.specs.SerialRuns.{IsWholeRun}
+use Rattle.commit_book.specs.SerialRuns as serial
+use Rattle.preflow_push.specs.Networks.{Net}
+use Rattle.preflow_push.specs.FlowFiles.{IsFlowFile}
+use Rattle.preflow_push.specs.Discharge.{discharge_operator}
+use Rattle.preflow_push.specs.Starts.{start_states, start_ready}
+use Rattle.preflow_push.specs.FlowReports.{flow_report}
 use Rattle.galois_run.specs.Classifying.{all_kinds, classify_text}
 
 -- ---- what `flow` says of a file
@@ -31,11 +33,6 @@ pub record IsReportOf (net : Net) (report : List ℕ) : Type 0 where
   pub run : IsWholeRun (discharge_operator net) (start_states net) (with_items [] (start_ready net)) commits after
   pub is_report : report ≡ flow_report net (items_of commits) after
 
--- as many of the network's items have committed as may, and one is ready still
-pub record IsUnfinished (net : Net) : Type 0 where
-  pub after : ℕ → State
-  pub spent : IsSpent (discharge_operator net) (start_states net) (with_items [] (start_ready net)) after
-
 -- the file holds a network, and this is the report of its run
 pub record IsFlowReport (bytes report : List ℕ) : Type 0 where
   pub net : Net
@@ -43,10 +40,11 @@ pub record IsFlowReport (bytes report : List ℕ) : Type 0 where
   pub is_report : IsReportOf net report
 
 -- the file holds a network whose run doesn't end within the commits that may be
-pub record IsRunOn (bytes : List ℕ) : Type 0 where
+pub record IsUnfinishedFlow (bytes : List ℕ) : Type 0 where
   pub net : Net
+  pub after : ℕ → State
   pub is_file : IsFlowFile bytes net
-  pub unfinished : IsUnfinished net
+  pub run : serial.IsUnfinished (discharge_operator net) (start_states net) (with_items [] (start_ready net)) after
 
 -- the bytes are those of no network
 abbrev pub IsNoFlow : List ℕ → Type 0
@@ -54,34 +52,34 @@ IsNoFlow bytes = (net : Net) → IsFlowFile bytes net → ⊥
 
 -- ---- what `classify` says of a file
 
--- the file is the text of a table, and this tells its rows
-pub record IsClassReport (bytes report : List ℕ) : Type 0 where
+-- the file is the text of a table of one of the wanted kinds, and this tells its rows
+pub record IsClassReport (wanted : List Kind) (bytes report : List ℕ) : Type 0 where
   pub kind : Kind
   pub rows : RowMap
-  pub is_table : IsTableText all_kinds bytes kind rows
+  pub is_table : IsTableText wanted bytes kind rows
   pub is_report : report ≡ classify_text kind (row_of rows)
 
--- the file is no text of a table, and this is the first line with a fault
-pub record IsFaultyTable (bytes : List ℕ) (line : ℕ) : Type 0 where
+-- the file is no text of a table of one of the wanted kinds, and this is the first line with a fault
+pub record IsFaultyTable (wanted : List Kind) (bytes : List ℕ) (line : ℕ) : Type 0 where
   pub fault : Fault
-  pub is_first : IsFirstFault all_kinds bytes line fault
+  pub is_first : IsFirstFault wanted bytes line fault
 
 -- ---- what each command says of a file
 
 -- the file is of the form that the command reads, and this is the command's report on it
 abbrev pub IsReported : Command → List ℕ → List ℕ → Type 0
 IsReported Flow bytes report = IsFlowReport bytes report
-IsReported Classify bytes report = IsClassReport bytes report
+IsReported Classify bytes report = IsClassReport all_kinds bytes report
 
 -- the file isn't of that form, and this is the line that is told: 0 by a command that tells none
 abbrev pub IsMalformed : Command → List ℕ → ℕ → Type 0
 IsMalformed Flow bytes line = (line ≡ 0) × IsNoFlow bytes
-IsMalformed Classify bytes line = IsFaultyTable bytes line
+IsMalformed Classify bytes line = IsFaultyTable all_kinds bytes line
 
 -- the file is of that form, but what the command does with it doesn't end within the commits that may be
-abbrev pub IsTooMuch : Command → List ℕ → Type 0
-IsTooMuch Flow bytes = IsRunOn bytes
-IsTooMuch Classify bytes = ⊥
+abbrev pub IsUnfinished : Command → List ℕ → Type 0
+IsUnfinished Flow bytes = IsUnfinishedFlow bytes
+IsUnfinished Classify bytes = ⊥
 
 -- ---- statuses
 
@@ -155,4 +153,4 @@ pub record FaultsWhere {A : Type 0} (cause : Type 0) (fault : RunFault) (result 
 pub record IsCaused (command : Command) (bytes : List ℕ) (status : Status) : Type 0 where
   pub too_large : ComesWhere (IsTooLong bytes) (TooLarge File) status
   pub bad_input : (line : ℕ) → ComesWhere (IsWithin bytes × IsMalformed command bytes line) (BadInput line) status
-  pub spent : ComesWhere (IsWithin bytes × IsTooMuch command bytes) Spent status
+  pub spent : ComesWhere (IsWithin bytes × IsUnfinished command bytes) Spent status

@@ -4,14 +4,16 @@ ghost use Rattle.std.specs.Prelude.{◌≡◌, ℕ, Err, IfOk, OnOk, [], ◌∷�
 ghost use Rattle.gx_base.specs.Conditions.{condition_of};
 ghost use Rattle.gx_base.specs.TableRows.{row_of};
 ghost use Rattle.galois_run.specs.Classifying.{all_kinds, class_text, pair_line, first_lines, classify_text};
-ghost use Rattle.galois_run.specs.ReportLines.{line};
+ghost use Rattle.line_writer.specs.Lines.{line};
+ghost use Rattle.galois_run.specs.RunFaults.{fault_of_text};
 ghost use Rattle.galois_run.specs.RunTurns.{IsClassReport, IsFaultyTable, FaultsWhere};
 ghost use Rattle.galois_run.specs.declared.run_faults.RunFault.TheVariants as faults;
 
 use crate::run_faults::RunFault;
 use cond_lattice::{Grade, class};
-use cond_text::{print_cond, read_table};
+use cond_text::{TextFault, print_cond, read_table};
 use gx_base::{Cond, Kind, NoMemory, Table, method_at, word_of};
+use line_writer::{Field, put_line};
 use std::alloc::{AllocError, Global};
 
 fn class_word(grade: Grade) -> &'static str
@@ -24,28 +26,26 @@ fn class_word(grade: Grade) -> &'static str
     }
 }
 
-fn put_word(text: &mut Vec<u8>, word: &str) -> Result<(), AllocError>
-    ensures { OnOk result (text.new.items ≡ text.old.items ++ 32 ∷ word.now) }
-{
-    text.push(b' ')?;
-    text.extend_from_slice(word.as_bytes())
-}
-
-fn put_words(
+/// Puts the line of two methods, a class and a row.
+fn put_words<'a>(
     text: &mut Vec<u8>,
-    first: &str,
-    second: &str,
-    class: &str,
-    row: &str,
+    first: &'a str,
+    second: &'a str,
+    class: &'a str,
+    row: &'a str,
 ) -> Result<(), AllocError>
     ensures { OnOk result (text.new.items ≡ text.old.items ++ line (codes "row" ∷ first.now ∷ second.now ∷ class.now ∷ row.now ∷ [])) }
 {
-    text.extend_from_slice(b"row")?;
-    put_word(text, first)?;
-    put_word(text, second)?;
-    put_word(text, class)?;
-    put_word(text, row)?;
-    text.extend_from_slice(b"\n")
+    put_line(
+        text,
+        &[
+            Field::Word("row"),
+            Field::Word(first),
+            Field::Word(second),
+            Field::Word(class),
+            Field::Word(row),
+        ],
+    )
 }
 
 /// Puts the line of a pair of methods with this row.
@@ -114,12 +114,28 @@ fn kinds() -> [Kind; 5]
     ]
 }
 
+/// The fault of a file that is no text of a table: it is the file of the command.
+fn input_fault(refused: TextFault) -> RunFault
+    ensures { result ≡ fault_of_text refused }
+{
+    match refused {
+        TextFault::Syntax { line }
+        | TextFault::UnknownMethod { line }
+        | TextFault::UnknownName { line }
+        | TextFault::Twice { line }
+        | TextFault::TooDeep { line } => RunFault::BadInput { line },
+        TextFault::NoMemory => RunFault::NoMemory,
+    }
+}
+
 /// The report on the table of a file.
 pub fn classify_bytes(alloc: Global, bytes: &[u8]) -> Result<Vec<u8>, RunFault>
-    ensures reported { IfOk result (λ text. IsClassReport bytes.now text.items) }
-    ensures faulty { (line : ℕ) → FaultsWhere (IsFaultyTable bytes.now line) (faults.BadInput line) result }
+    ensures reported { IfOk result (λ text. IsClassReport all_kinds bytes.now text.items) }
+    ensures faulty { (line : ℕ) → FaultsWhere (IsFaultyTable all_kinds bytes.now line) (faults.BadInput line) result }
     ensures ends { result ≡ Err faults.Spent → ⊥ }
 {
-    let (kind, table) = read_table(alloc, bytes, &kinds())?;
-    Ok(classify(alloc, kind, &table)?)
+    match read_table(alloc, bytes, &kinds()) {
+        Ok((kind, table)) => Ok(classify(alloc, kind, &table)?),
+        Err(refused) => Err(input_fault(refused)),
+    }
 }

@@ -1,22 +1,27 @@
 //! The command `flow`: from the bytes of a file to those of its report.
 
-ghost use Rattle.std.specs.Prelude.{◌≡◌, ℕ, Err, IfOk};
-ghost use Rattle.galois_run.specs.Networks.{view};
-ghost use Rattle.galois_run.specs.RunTurns.{IsFlowReport, IsReportOf, IsUnfinished, IsMalformed, IsRunOn};
+ghost use Rattle.std.specs.Prelude.{◌≡◌, ℕ, [], Err, IfOk};
+ghost use Rattle.gx_base.specs.States.{State};
+ghost use Rattle.gx_base.specs.Worklists.{with_items};
+ghost use Rattle.commit_book.specs.SerialRuns.{IsUnfinished};
+ghost use Rattle.preflow_push.specs.Discharge.{discharge_operator};
+ghost use Rattle.preflow_push.specs.Networks.{view};
+ghost use Rattle.preflow_push.specs.Starts.{start_states, start_ready};
+ghost use Rattle.galois_run.specs.RunTurns.{IsFlowReport, IsReportOf, IsMalformed, IsUnfinishedFlow};
 ghost use Rattle.galois_run.specs.declared.run_faults.RunFault.TheVariants as faults;
 ghost use Rattle.galois_run.specs.declared.words.Command.TheVariants as commands;
 
-use crate::preflow_push::{Discharge, Network, read_max, report, start};
 use crate::run_faults::RunFault;
-use crate::serial::{SerialStop, run_serially};
+use commit_book::{SerialStop, run_serially};
 use gx_base::InputFault;
+use preflow_push::{Discharge, Network, read_max, report, start};
 use std::alloc::Global;
 
 /// The report on the network of a flow file.
 pub fn flow_text(alloc: Global, bytes: &[u8]) -> Result<Vec<u8>, RunFault>
     ensures reported { IfOk result (λ text. IsFlowReport bytes.now text.items) }
     ensures malformed { (line : ℕ) → result ≡ Err (faults.BadInput line) → IsMalformed commands.Flow bytes.now line }
-    ensures run_on { result ≡ Err faults.Spent → IsRunOn bytes.now }
+    ensures unfinished { result ≡ Err faults.Spent → IsUnfinishedFlow bytes.now }
 {
     match read_max(alloc, bytes) {
         Ok(net) => network_text(alloc, &net),
@@ -28,7 +33,7 @@ pub fn flow_text(alloc: Global, bytes: &[u8]) -> Result<Vec<u8>, RunFault>
 /// The report on a network.
 fn network_text(alloc: Global, net: &Network) -> Result<Vec<u8>, RunFault>
     ensures reported { IfOk result (λ text. IsReportOf (view net.now) text.items) }
-    ensures run_on { result ≡ Err faults.Spent → IsUnfinished (view net.now) }
+    ensures unfinished { result ≡ Err faults.Spent → (after : ℕ → State) × IsUnfinished (discharge_operator (view net.now)) (start_states (view net.now)) (with_items [] (start_ready (view net.now))) after }
     ensures well_formed { (line : ℕ) → result ≡ Err (faults.BadInput line) → ⊥ }
 {
     let (mut shards, ready) = start(alloc, net)?;

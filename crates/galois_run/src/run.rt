@@ -4,7 +4,7 @@ ghost use Rattle.std.specs.Prelude.{◌≡◌, ◌↔◌, ℕ, None, IfSome, IfO
 ghost use Rattle.gx_io.specs.Faults.{HasRisen};
 ghost use Rattle.gx_base.specs.declared.inputs.What.TheVariants.{File};
 ghost use Rattle.galois_run.specs.Words.{plan_of, OnFile};
-ghost use Rattle.galois_run.specs.RunTurns.{IsReported, IsMalformed, IsTooMuch, IsWithin, IsTooLong, ComesWhere, IsWritten, IsCutShort, IsAnswer, writes, FaultsWhere, IsCaused};
+ghost use Rattle.galois_run.specs.RunTurns.{IsReported, IsMalformed, IsUnfinished, IsWithin, IsTooLong, ComesWhere, IsWritten, IsCutShort, IsAnswer, writes, FaultsWhere, IsCaused};
 ghost use Rattle.galois_run.specs.declared.run_faults.RunFault.TheVariants as faults;
 
 use crate::classifying::classify_bytes;
@@ -35,7 +35,7 @@ pub fn run_turns<F: Files, K: Sink>(
     ensures read_fault { result ≡ Status.ReadFault → HasRisen (F.faults files.old) (F.faults files.new) }
     ensures too_large { OnFile (plan_of (map string_bytes words.now)) (F.holds files.old) (λ command bytes. ComesWhere (IsTooLong bytes) (Status.TooLarge File) result) }
     ensures bad_input { OnFile (plan_of (map string_bytes words.now)) (F.holds files.old) (λ command bytes. (line : ℕ) → ComesWhere (IsWithin bytes × IsMalformed command bytes line) (Status.BadInput line) result) }
-    ensures spent { OnFile (plan_of (map string_bytes words.now)) (F.holds files.old) (λ command bytes. ComesWhere (IsWithin bytes × IsTooMuch command bytes) Status.Spent result) }
+    ensures spent { OnFile (plan_of (map string_bytes words.now)) (F.holds files.old) (λ command bytes. ComesWhere (IsWithin bytes × IsUnfinished command bytes) Status.Spent result) }
     ensures write_fault { result ≡ Status.WriteFault → HasRisen (K.faults out.old) (K.faults out.new) }
     ensures cut_short { result ≡ Status.WriteFault → OnFile (plan_of (map string_bytes words.now)) (F.holds files.old) (λ command bytes. IsCutShort command bytes (K.told out.old) (K.told out.new)) }
     ensures answers { IfSome (plan_of (map string_bytes words.now)) (λ plan. IsAnswer plan.command result) }
@@ -88,7 +88,7 @@ fn run_command<F: Files, K: Sink>(
 fn report_text(alloc: Global, command: Command, bytes: &[u8]) -> Result<Vec<u8>, RunFault>
     ensures reported { IfOk result (λ text. IsReported command bytes.now text.items) }
     ensures malformed { (line : ℕ) → FaultsWhere (IsMalformed command bytes.now line) (faults.BadInput line) result }
-    ensures too_much { FaultsWhere (IsTooMuch command bytes.now) faults.Spent result }
+    ensures unfinished { FaultsWhere (IsUnfinished command bytes.now) faults.Spent result }
 {
     match command {
         Command::Flow => flow_text(alloc, bytes),

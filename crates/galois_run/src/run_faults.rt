@@ -1,6 +1,5 @@
 //! Why a command makes no report on a file.
 
-use cond_text::TextFault;
 use gx_base::NoMemory;
 
 /// Why there is no report on a file.
@@ -21,23 +20,5 @@ impl From<NoMemory> for RunFault {
 
     fn from(_refused: NoMemory) -> RunFault {
         RunFault::NoMemory
-    }
-}
-
-impl From<TextFault> for RunFault {
-    ghost use Rattle.std.specs.Prelude.{◌≡◌};
-    ghost use Rattle.galois_run.specs.RunFaults.{fault_of_text};
-
-    ghost from_gives = { λ refused fault. fault ≡ fault_of_text refused };
-
-    fn from(refused: TextFault) -> RunFault {
-        match refused {
-            TextFault::Syntax { line }
-            | TextFault::UnknownMethod { line }
-            | TextFault::UnknownName { line }
-            | TextFault::Twice { line }
-            | TextFault::TooDeep { line } => RunFault::BadInput { line },
-            TextFault::NoMemory => RunFault::NoMemory,
-        }
     }
 }

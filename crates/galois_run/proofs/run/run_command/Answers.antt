@@ -1,11 +1,11 @@
-use Rattle.galois_run.proofs.FaultyFiles.{line_told}
-use Rattle.galois_run.proofs.Refusals.{caused_by_held, written_of_held, cut_of_held}
+use Rattle.galois_run.proofs.refusals.FaultyFiles.{line_told}
+use Rattle.galois_run.proofs.refusals.Refusals.{caused_by_held, written_of_held, cut_of_held}
 use Rattle.galois_run.proofs.run.run_command.Goals as goal
 
 pub returns-in-Ok-write_whole-clause-caused : goal.returns-in-Ok-write_whole-clause-caused
 returns-in-Ok-write_whole-clause-caused g c =
     caused_by_held (g.F.Files.holds c.args.files.now c.args.name.now) c.deref.result.now c.in-Ok.bytes.items c.args.command c.in-Ok-report_text.text
-    c.deref.ensures.value c.in-Ok.ensures.whole c.in-Ok.ensures.within c.in-Ok-report_text.ensures.malformed c.in-Ok-report_text.ensures.too_much
+    c.deref.ensures.value c.in-Ok.ensures.whole c.in-Ok.ensures.within c.in-Ok-report_text.ensures.malformed c.in-Ok-report_text.ensures.unfinished
 
 pub returns-in-Ok-write_whole-clause-ok : goal.returns-in-Ok-write_whole-clause-ok
 returns-in-Ok-write_whole-clause-ok g c e =

@@ -1,0 +1,5 @@
+pub mod CallerLemmas
+pub mod acts
+pub mod ready
+pub mod runs
+pub mod states

@@ -1,0 +1,3 @@
+pub mod BodySteps
+pub mod SerialSteps
+pub mod LeastFirst

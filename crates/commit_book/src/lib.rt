@@ -1,0 +1,14 @@
+//! Operators, the worklist of the items that are ready, and the reference runner: the bodies of items one after
+//! another on plain objects.
+#![tactic(auto)]
+
+mod operator;
+mod outcome;
+mod serial;
+mod worklist;
+
+pub use gx_base::{Act, Commit, Step};
+pub use operator::Operator;
+pub use outcome::Outcome;
+pub use serial::{MOST_COMMITS, SerialStop, commit_item, order_is_determined, run_serially};
+pub use worklist::Worklist;

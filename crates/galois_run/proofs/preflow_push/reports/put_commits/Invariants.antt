@@ -1,8 +1,0 @@
-use Rattle.std.proofs.Common.{◌≡◌, ◌++◌, take}
-use Rattle.std.specs.List.{flat_map}
-use Rattle.galois_run.specs.FlowReports.{commit_line}
-use Rattle.galois_run.specs.SerialRuns.{items_of}
-use Rattle.galois_run.proofs.preflow_push.reports.put_commits.Given as goal
-
-abbrev pub invariant-loop-commit : goal.invariant-loop-commit
-invariant-loop-commit l = l.text.items ≡ l.fn.text.items ++ flat_map commit_line (items_of (take l.commit-index l.order))

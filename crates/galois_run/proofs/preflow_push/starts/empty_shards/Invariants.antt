@@ -1,7 +1,0 @@
-use Rattle.std.proofs.Common.{◌≡◌, map, replicate}
-use Rattle.flow_graph.specs.FlowState.{state_of}
-use Rattle.galois_run.specs.Starts.{empty_shard}
-use Rattle.galois_run.proofs.preflow_push.starts.empty_shards.Given as goal
-
-abbrev pub invariant-loop : goal.invariant-loop
-invariant-loop l = map state_of l.shards.items ≡ replicate l.counter empty_shard

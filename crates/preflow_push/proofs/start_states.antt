@@ -1,0 +1,4 @@
+pub mod FlowRooms
+pub mod FlowWrites
+pub mod FlowPours
+pub mod ReadyNodes

@@ -1,0 +1,13 @@
+pub mod FlowFiles
+pub mod FlowLines
+pub mod FlowParts
+pub mod Networks
+pub mod FlowCalls
+pub mod Touching
+pub mod TouchLists
+pub mod Discharge
+pub mod Stages
+pub mod Discharges
+pub mod FlowStates
+pub mod FlowReports
+pub mod Starts

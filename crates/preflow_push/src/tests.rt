@@ -1,0 +1,187 @@
+//! A network of four nodes, worked by hand.
+
+use crate::flow_calls::{EXCESS, FLOW, GAIN, HEIGHT, RELABEL, SEND, node_item};
+use crate::{Arc, Discharge, Network, report, start};
+use commit_book::{Commit, Operator};
+use flow_graph::FlowShard;
+use gx_base::{Act, Call, Item, NoMemory, Reply, SeqType};
+use std::alloc::Global;
+use std::test::Fail;
+
+/// From 1 to 4: arcs 1 and 2 leave the source, arc 5 joins the nodes between.
+fn four_nodes(alloc: Global) -> Result<Network, NoMemory> {
+    let ends = [(1, 2, 3), (1, 3, 2), (2, 4, 2), (3, 4, 3), (2, 3, 5)];
+    let mut arcs = Vec::new(alloc);
+    for (from, to, cap) in ends {
+        arcs.push(Arc { from, to, cap })?;
+    }
+    Ok(Network {
+        nodes: 4,
+        source: 1,
+        sink: 4,
+        arcs,
+    })
+}
+
+fn flow_call(method: u32, number: i64, amount: i64) -> Call {
+    Call {
+        method,
+        a: number,
+        b: amount,
+        c: 0,
+        d: 0,
+    }
+}
+
+/// The act of a call, and what the test lets it reply.
+fn asked(room: u32, method: u32, number: i64, amount: i64, value: i64) -> (Act, Option<Reply>) {
+    let call = flow_call(method, number, amount);
+    let reply = Reply {
+        p: value,
+        q: 0,
+        r: 0,
+        s: 0,
+    };
+    (Act::Call { room, call }, Some(reply))
+}
+
+fn pushed(node: i64) -> (Act, Option<Reply>) {
+    (Act::Push(node_item(node)), None)
+}
+
+/// Whether the body of an item makes these acts, and then comes to its end.
+fn follows(operator: &Discharge, item: Item, acts: &[(Act, Option<Reply>)]) -> bool {
+    let mut stage = operator.begin(item);
+    let mut last = None;
+    for (act, reply) in acts {
+        if operator.next(&mut stage, last) != *act {
+            return false;
+        }
+        last = *reply;
+    }
+    operator.next(&mut stage, last) == Act::Done
+}
+
+#[test]
+fn excess_goes_down_and_is_spent(rt: HostRuntime) -> Result<(), Fail> {
+    let net = four_nodes(rt.alloc())?;
+    let operator = Discharge::new(rt.alloc(), &net)?;
+    let acts = [
+        asked(2, EXCESS, 2, 0, 3),
+        asked(2, HEIGHT, 2, 0, 1),
+        asked(1, FLOW, 1, 0, 3),
+        asked(1, HEIGHT, 1, 0, 4),
+        asked(3, FLOW, 3, 0, 0),
+        asked(4, HEIGHT, 4, 0, 0),
+        asked(3, SEND, 3, 2, 0),
+        asked(2, GAIN, 2, -2, 0),
+        asked(4, GAIN, 4, 2, 0),
+        asked(5, FLOW, 5, 0, 0),
+        asked(3, HEIGHT, 3, 0, 0),
+        asked(5, SEND, 5, 1, 0),
+        asked(2, GAIN, 2, -1, 0),
+        asked(3, GAIN, 3, 1, 0),
+        pushed(3),
+    ];
+    assert!(rt; follows(&operator, node_item(2), acts.as_slice()));
+    Ok(())
+}
+
+#[test]
+fn excess_that_is_left_raises_the_node(rt: HostRuntime) -> Result<(), Fail> {
+    let net = four_nodes(rt.alloc())?;
+    let operator = Discharge::new(rt.alloc(), &net)?;
+    let acts = [
+        asked(2, EXCESS, 2, 0, 3),
+        asked(2, HEIGHT, 2, 0, 0),
+        asked(1, FLOW, 1, 0, 3),
+        asked(1, HEIGHT, 1, 0, 4),
+        asked(3, FLOW, 3, 0, 2),
+        asked(5, FLOW, 5, 0, 0),
+        asked(3, HEIGHT, 3, 0, 1),
+        asked(2, RELABEL, 2, 2, 0),
+        pushed(2),
+    ];
+    assert!(rt; follows(&operator, node_item(2), acts.as_slice()));
+    Ok(())
+}
+
+#[test]
+fn excess_goes_back_along_an_arc(rt: HostRuntime) -> Result<(), Fail> {
+    let net = four_nodes(rt.alloc())?;
+    let operator = Discharge::new(rt.alloc(), &net)?;
+    let acts = [
+        asked(2, EXCESS, 2, 0, 1),
+        asked(2, HEIGHT, 2, 0, 5),
+        asked(1, FLOW, 1, 0, 3),
+        asked(1, HEIGHT, 1, 0, 4),
+        asked(1, SEND, 1, -1, 0),
+        asked(2, GAIN, 2, -1, 0),
+        asked(1, GAIN, 1, 1, 0),
+    ];
+    assert!(rt; follows(&operator, node_item(2), acts.as_slice()));
+    Ok(())
+}
+
+#[test]
+fn other_items_have_nothing_to_do(rt: HostRuntime) -> Result<(), Fail> {
+    let net = four_nodes(rt.alloc())?;
+    let operator = Discharge::new(rt.alloc(), &net)?;
+    assert_eq!(rt; operator.rooms(), 16);
+    assert!(rt; !operator.ordered());
+    assert!(rt; follows(&operator, node_item(0), [].as_slice()));
+    assert!(rt; follows(&operator, node_item(5), [].as_slice()));
+    let other_form = Item {
+        k0: 2,
+        k1: 1,
+        k2: 0,
+        k3: 0,
+    };
+    assert!(rt; follows(&operator, other_form, [].as_slice()));
+    Ok(())
+}
+
+fn commit_of(node: i64) -> Commit {
+    Commit {
+        worker: 0,
+        iter: 0,
+        item: node_item(node),
+        steps: 0,
+    }
+}
+
+fn make(
+    shards: &mut Vec<FlowShard>,
+    room: usize,
+    method: u32,
+    number: i64,
+    amount: i64,
+) -> Result<(), NoMemory> {
+    if let Some(shard) = shards.get_mut(room) {
+        shard.apply(flow_call(method, number, amount))?;
+    }
+    Ok(())
+}
+
+#[test]
+fn arcs_out_of_the_source_are_full(rt: HostRuntime) -> Result<(), Fail> {
+    let net = four_nodes(rt.alloc())?;
+    let (mut shards, ready) = start(rt.alloc(), &net)?;
+    assert!(rt; ready.as_slice() == [node_item(2), node_item(3)].as_slice());
+    assert_eq!(rt; shards.len(), 16);
+    assert_eq!(rt; shards[1].height(1), 4);
+    assert_eq!(rt; shards[2].height(2), 0);
+    assert_eq!(rt; shards[1].excess(1), -5);
+    assert_eq!(rt; shards[2].excess(2), 3);
+    assert_eq!(rt; shards[3].excess(3), 2);
+
+    make(&mut shards, 3, SEND, 3, 2)?;
+    make(&mut shards, 5, SEND, 5, -7)?;
+    make(&mut shards, 4, GAIN, 4, 2)?;
+    let order = [commit_of(2), commit_of(3), commit_of(2)];
+    let text = report(rt.alloc(), &net, order.as_slice(), &shards)?;
+    let wanted =
+        b"c i 2\nc i 3\nc i 2\ns 2\nf 1 2 3\nf 1 3 2\nf 2 4 2\nf 3 4 0\nf 2 3 -7\n".as_slice();
+    assert!(rt; text.as_slice() == wanted);
+    Ok(())
+}

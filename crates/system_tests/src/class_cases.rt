@@ -1,0 +1,186 @@
+//! Worked cases of `classify`, and of tables that are read from their texts.
+
+ghost use Rattle.std.specs.Prelude.{[], ◌∷◌, IfOk, OnOk};
+ghost use Rattle.gx_base.specs.Kinds.{kind_number};
+ghost use Rattle.gx_base.specs.TableRows.{RowMap, row_of};
+ghost use Rattle.gx_base.specs.Tables.{IsValid};
+ghost use Rattle.cond_syntax.specs.TableTexts.{IsTableText};
+
+use crate::run_cases::{NONE, Trouble, run_words};
+use cond_lattice::{NotBelow, below};
+use cond_text::{TextFault, read_table};
+use flow_graph::FlowShard;
+use galois_run::Status;
+use gx_base::{Choice, Kind, SeqType, Table};
+use std::alloc::Global;
+use std::test::Fail;
+
+const APART_SET: &str =
+    "type set\nadd add : a1 != a2\nadd remove : a1 != a2\nadd contains : a1 != a2\nremove add : a1 != a2\nremove remove : a1 != a2\nremove contains : a1 != a2\ncontains add : a1 != a2\ncontains remove : a1 != a2\ncontains contains : true\n";
+
+const APART_SET_ROWS: &str =
+    "row add add SIMPLE a1 != a2\nrow add remove SIMPLE a1 != a2\nrow add contains SIMPLE a1 != a2\nrow remove add SIMPLE a1 != a2\nrow remove remove SIMPLE a1 != a2\nrow remove contains SIMPLE a1 != a2\nrow contains add SIMPLE a1 != a2\nrow contains remove SIMPLE a1 != a2\nrow contains contains SIMPLE true\n";
+
+const EMPTY_SET_ROWS: &str =
+    "row add add SIMPLE false\nrow add remove SIMPLE false\nrow add contains SIMPLE false\nrow remove add SIMPLE false\nrow remove remove SIMPLE false\nrow remove contains SIMPLE false\nrow contains add SIMPLE false\nrow contains remove SIMPLE false\nrow contains contains SIMPLE false\n";
+
+const DOMAINS: &str =
+    "type domains\ncredit credit : true\nweigh sum : b1 = 0 or dom1 != a2\nweigh total : b1 = 0 or dom1 != dom2\n";
+
+const DOMAINS_ROWS: &str =
+    "row weigh weigh SIMPLE false\nrow weigh total GENERAL b1 = 0 or dom1 != dom2\nrow weigh move SIMPLE false\nrow weigh credit SIMPLE false\nrow weigh sum ONLINE b1 = 0 or dom1 != a2\nrow total weigh SIMPLE false\nrow total total SIMPLE false\nrow total move SIMPLE false\nrow total credit SIMPLE false\nrow total sum SIMPLE false\nrow move weigh SIMPLE false\nrow move total SIMPLE false\nrow move move SIMPLE false\nrow move credit SIMPLE false\nrow move sum SIMPLE false\nrow credit weigh SIMPLE false\nrow credit total SIMPLE false\nrow credit move SIMPLE false\nrow credit credit SIMPLE true\nrow credit sum SIMPLE false\nrow sum weigh SIMPLE false\nrow sum total SIMPLE false\nrow sum move SIMPLE false\nrow sum credit SIMPLE false\nrow sum sum SIMPLE false\n";
+
+const PRECISE_SET: &str =
+    "type set\nadd add : a1 != a2 or (p1 = 0 and p2 = 0)\nadd remove : a1 != a2\nadd contains : a1 != a2 or p1 = 0\nremove add : a1 != a2\nremove remove : a1 != a2 or (p1 = 0 and p2 = 0)\nremove contains : a1 != a2 or p1 = 0\ncontains add : a1 != a2 or p2 = 0\ncontains remove : a1 != a2 or p2 = 0\ncontains contains : true\n";
+
+/// A row with 65 open parentheses.
+const DEEP: &str =
+    "type set\nadd add : (((((((((((((((((((((((((((((((((((((((((((((((((((((((((((((((((true)))))))))))))))))))))))))))))))))))))))))))))))))))))))))))))))))\n";
+
+/// Whether `classify` on this text ends well and writes this report.
+fn classifies(alloc: Global, text: &str, report: &str) -> Result<bool, Fail> {
+    let run = run_words(alloc, &["classify", "net"], text, NONE)?;
+    Ok(run.status == Status::Ok && run.written.as_slice() == report.as_bytes())
+}
+
+#[test]
+fn classify_set(rt: HostRuntime) -> Result<(), Fail> {
+    let alloc = rt.alloc();
+    assert!(rt; classifies(alloc, APART_SET, APART_SET_ROWS)?);
+    assert!(rt; classifies(alloc, "type set\n", EMPTY_SET_ROWS)?);
+    Ok(())
+}
+
+#[test]
+fn classify_domains(rt: HostRuntime) -> Result<(), Fail> {
+    assert!(rt; classifies(rt.alloc(), DOMAINS, DOMAINS_ROWS)?);
+    Ok(())
+}
+
+/// Whether `classify` on this text tells this line, and writes nothing.
+fn is_faulty_at(alloc: Global, text: &str, line: u64) -> Result<bool, Fail> {
+    let run = run_words(alloc, &["classify", "net"], text, NONE)?;
+    Ok(run.status == Status::BadInput { line } && run.written.is_empty())
+}
+
+/// Whether the first fault of this text is this one, and `classify` tells its line and writes nothing.
+fn is_refused(alloc: Global, text: &str, line: u64, fault: TextFault) -> Result<bool, Fail> {
+    let told = match read_table(alloc, text.as_bytes(), &[Kind::Set]) {
+        Ok(_) => None,
+        Err(refused) => Some(refused),
+    };
+    Ok(told == Some(fault) && is_faulty_at(alloc, text, line)?)
+}
+
+#[test]
+fn condition_faults(rt: HostRuntime) -> Result<(), Fail> {
+    let alloc = rt.alloc();
+    for (text, line, fault) in [
+        (
+            "type set\nadd add : a1 ! a2\n",
+            2,
+            TextFault::Syntax { line: 2 },
+        ),
+        (
+            "type set\nadd fly : true\n",
+            2,
+            TextFault::UnknownMethod { line: 2 },
+        ),
+        (
+            "type set\nadd add : e1 = 0\n",
+            2,
+            TextFault::UnknownName { line: 2 },
+        ),
+        (
+            "type set\nadd add : true\nadd add : true\n",
+            3,
+            TextFault::Twice { line: 3 },
+        ),
+        (DEEP, 2, TextFault::TooDeep { line: 2 }),
+        ("", 1, TextFault::Syntax { line: 1 }),
+    ] {
+        assert!(rt; is_refused(alloc, text, line, fault)?);
+    }
+    Ok(())
+}
+
+#[test]
+fn classify_reads_and_writes_by_pieces(rt: HostRuntime) -> Result<(), Fail> {
+    let alloc = rt.alloc();
+    let unread = Trouble {
+        reads: &[1],
+        ..NONE
+    };
+    let run = run_words(alloc, &["classify", "net"], APART_SET, unread)?;
+    assert!(rt; run.status == Status::ReadFault);
+    assert!(rt; run.written.is_empty());
+    let third = Trouble {
+        writes: &[2],
+        most: 4,
+        ..NONE
+    };
+    let run = run_words(alloc, &["classify", "net"], APART_SET, third)?;
+    assert!(rt; run.status == Status::WriteFault);
+    assert!(rt; run.written.as_slice() == b"row add ".as_slice());
+    Ok(())
+}
+
+/// The set table with this text.
+fn set_table(alloc: Global, text: &str) -> Result<Table, Fail> {
+    match read_table(alloc, text.as_bytes(), &[Kind::Set]) {
+        Ok((_, table)) => Ok(table),
+        Err(_) => Err("no table".into()),
+    }
+}
+
+/// Whether the rows of this pair of methods are the first that aren't below.
+fn is_above_at(answer: Result<(), NotBelow>, first: u32, second: u32) -> bool {
+    answer == Err(NotBelow { first, second })
+}
+
+#[test]
+fn below_and_conditions(rt: HostRuntime) -> Result<(), Fail> {
+    let alloc = rt.alloc();
+    let precise = set_table(alloc, PRECISE_SET)?;
+    let loose = set_table(alloc, "type set\nadd add : true\n")?;
+    assert!(rt; is_above_at(below(Kind::Set, &loose, &precise), 0, 0));
+    assert!(rt; below(Kind::Set, &precise, &precise).is_ok());
+    Ok(())
+}
+
+/// Whether the table of a text is below a valid one, row by row.
+fn compare(
+    alloc: Global,
+    kind: Kind,
+    bytes: &[u8],
+    valid: &Table,
+) -> Result<Result<(), NotBelow>, Fail>
+    requires { IsValid (kind_number kind) (row_of valid.now) }
+    // Then it is valid too: a table that was read is false for methods of other kinds.
+    ensures { IfOk result (λ answer. OnOk answer ((rows : RowMap) × IsTableText (kind ∷ []) bytes.now kind rows × IsValid (kind_number kind) (row_of rows))) }
+{
+    cond_syntax::laws::read_tables_are_printable();
+    cond_syntax::laws::read_tables_are_of_wanted_kinds();
+    gx_base::laws::below_valid_is_valid();
+    let (read, table) = read_table(alloc, bytes, &[kind])?;
+    let answer = below(read, &table, valid);
+    Ok(answer)
+}
+
+/// Whether the flow table of a text is below the precise one that flow shards ship.
+fn compare_with_shipped(alloc: Global, text: &str) -> Result<Result<(), NotBelow>, Fail> {
+    gate_core::laws::shipped_tables_serve_gates::<FlowShard>();
+    let shipped = FlowShard::shipped(alloc, Kind::Flow, Choice::Precise)?;
+    compare(alloc, Kind::Flow, text.as_bytes(), &shipped)
+}
+
+#[test]
+fn flow_tables_beside_the_shipped_one(rt: HostRuntime) -> Result<(), Fail> {
+    let alloc = rt.alloc();
+    assert!(rt; compare_with_shipped(alloc, "type flow\n")?.is_ok());
+    let apart = "type flow\nheight relabel : a2 != a1 and b1 = 0\ngain gain : a1 != a2\n";
+    assert!(rt; compare_with_shipped(alloc, apart)?.is_ok());
+    let loose = "type flow\ngain gain : true\ngain excess : a1 != a2 or p1 = 0\n";
+    assert!(rt; is_above_at(compare_with_shipped(alloc, loose)?, 19, 18));
+    Ok(())
+}

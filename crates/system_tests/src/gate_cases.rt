@@ -1,0 +1,172 @@
+//! Gates over flow shards under the precise table, with values worked by hand.
+use flow_graph::FlowShard;
+use gate_core::laws::shipped_tables_serve_gates;
+use gate_core::{Entry, Gate, GateRefuse, ScanScreen, Screen, Told};
+use gx_base::{Call, Choice, Item, Kind, NoMemory, Reply, Seen, SeqType};
+use std::alloc::Global;
+use std::test::Fail;
+
+const HEIGHT: u32 = 16;
+
+const RELABEL: u32 = 17;
+
+const EXCESS: u32 = 18;
+
+const GAIN: u32 = 19;
+
+const ITEM: Item = Item {
+    k0: 0,
+    k1: 0,
+    k2: 0,
+    k3: 0,
+};
+
+fn call(method: u32, a: i64, b: i64) -> Call {
+    Call {
+        method,
+        a,
+        b,
+        c: 0,
+        d: 0,
+    }
+}
+
+fn reply(p: i64) -> Reply {
+    Reply {
+        p,
+        q: 0,
+        r: 0,
+        s: 0,
+    }
+}
+
+/// A gate on an empty shard. The plain scan can tell the conflicts of its table.
+fn precise_gate(alloc: Global) -> Result<Gate<FlowShard, ScanScreen>, NoMemory> {
+    let table = FlowShard::shipped(alloc, Kind::Flow, Choice::Precise)?;
+    shipped_tables_serve_gates::<FlowShard>();
+    let screen = ScanScreen::new();
+    if !<ScanScreen as Screen<FlowShard>>::fits(&screen, Kind::Flow, &table) {
+        return Err(NoMemory);
+    }
+    let object = FlowShard::new(alloc);
+    Ok(Gate::new(alloc, object, Kind::Flow, table, screen))
+}
+
+/// What is told of a call that replies `would` beside an entry of worker 0 that replied `replied`.
+fn told(held: Call, replied: i64, asked: Call, would: i64) -> Told {
+    Told {
+        held: Entry {
+            worker: 0,
+            iter: 0,
+            item: ITEM,
+            call: held,
+            reply: reply(replied),
+            seen: 0,
+            done: None,
+        },
+        asked,
+        would: reply(would),
+        seen: Seen {
+            first: 0,
+            second: 0,
+        },
+    }
+}
+
+/// Whether a call of an iteration is let in and replies so.
+fn replies(
+    gate: &mut Gate<FlowShard, ScanScreen>,
+    worker: u32,
+    iter: u64,
+    asked: Call,
+    value: i64,
+) -> bool {
+    gate.call(worker, iter, ITEM, asked) == Ok(reply(value))
+}
+
+/// Whether a call of a worker's first iteration is refused so.
+fn refuses(
+    gate: &mut Gate<FlowShard, ScanScreen>,
+    worker: u32,
+    asked: Call,
+    refuse: GateRefuse,
+) -> bool {
+    gate.call(worker, 0, ITEM, asked) == Err(refuse)
+}
+
+/// Whether this call with this reply is the last one of a worker's first iteration, which is taken back.
+fn undoes(gate: &mut Gate<FlowShard, ScanScreen>, worker: u32, call: Call, value: i64) -> bool {
+    gate.undo_last(worker, 0) == Some((call, reply(value)))
+}
+
+fn release_as_first(gate: &mut Gate<FlowShard, ScanScreen>, worker: u32) -> bool {
+    let rises = gate.mark() == 0;
+    if rises {
+        gate.release(worker, 0, 0);
+    }
+    rises
+}
+
+#[test]
+fn gate_excess_gain(rt: HostRuntime) -> Result<(), Fail> {
+    let mut gate = precise_gate(rt.alloc())?;
+    assert!(rt; replies(&mut gate, 0, 0, call(EXCESS, 4, 0), 0));
+    let refuse = GateRefuse::Conflict(told(call(EXCESS, 4, 0), 0, call(GAIN, 4, 1), 0));
+    assert!(rt; refuses(&mut gate, 1, call(GAIN, 4, 1), refuse));
+    assert!(rt; replies(&mut gate, 1, 0, call(GAIN, 4, 0), 0));
+    Ok(())
+}
+
+#[test]
+fn gate_gain_undo(rt: HostRuntime) -> Result<(), Fail> {
+    let mut gate = precise_gate(rt.alloc())?;
+    assert!(rt; replies(&mut gate, 0, 0, call(GAIN, 3, 5), 0));
+    assert!(rt; replies(&mut gate, 1, 0, call(GAIN, 3, 7), 0));
+    assert_eq!(rt; gate.object().excess(3), 12);
+    assert!(rt; undoes(&mut gate, 0, call(GAIN, 3, 5), 0));
+    assert_eq!(rt; gate.object().excess(3), 7);
+    assert_eq!(rt; gate.live().len(), 1);
+    assert!(rt; gate.undo_last(0, 0).is_none());
+    assert!(rt; release_as_first(&mut gate, 1));
+    assert_eq!(rt; gate.done().len(), 1);
+    assert_eq!(rt; gate.live().len(), 0);
+    assert_eq!(rt; gate.mark(), 1);
+    assert!(rt;
+        gate.done()
+            .iter()
+            .all(|entry| entry.done == Some(0) && entry.worker == 1)
+    );
+    assert_eq!(rt; gate.object().excess(3), 7);
+    Ok(())
+}
+
+#[test]
+fn gate_relabel_undo(rt: HostRuntime) -> Result<(), Fail> {
+    let mut gate = precise_gate(rt.alloc())?;
+    assert!(rt; replies(&mut gate, 0, 0, call(RELABEL, 4, 2), 0));
+    let refuse = GateRefuse::Conflict(told(call(RELABEL, 4, 2), 0, call(HEIGHT, 4, 0), 2));
+    assert!(rt; refuses(&mut gate, 1, call(HEIGHT, 4, 0), refuse));
+    assert!(rt; replies(&mut gate, 0, 0, call(HEIGHT, 4, 0), 2));
+    assert!(rt; undoes(&mut gate, 0, call(HEIGHT, 4, 0), 2));
+    assert!(rt; undoes(&mut gate, 0, call(RELABEL, 4, 2), 0));
+    assert!(rt; gate.undo_last(0, 0).is_none());
+    assert_eq!(rt; gate.object().height(4), 0);
+    Ok(())
+}
+
+#[test]
+fn a_gate_without_uncommitted_entries_tidies_its_object(rt: HostRuntime) -> Result<(), Fail> {
+    let mut gate = precise_gate(rt.alloc())?;
+    let gain = call(GAIN, 1, 5);
+    assert!(rt; replies(&mut gate, 1, 0, call(EXCESS, 7, 0), 0));
+    assert!(rt; replies(&mut gate, 0, 0, gain, 0));
+    assert!(rt; undoes(&mut gate, 0, gain, 0));
+    // The row of node 1 is dead now, and stays while the entry of worker 1 may still be undone.
+    assert!(rt; replies(&mut gate, 0, 0, call(EXCESS, 9, 0), 0));
+    assert!(rt; gate.object().roomed(gain, reply(0)));
+    assert!(rt; undoes(&mut gate, 0, call(EXCESS, 9, 0), 0));
+    assert!(rt; undoes(&mut gate, 1, call(EXCESS, 7, 0), 0));
+    assert!(rt; replies(&mut gate, 0, 1, call(EXCESS, 9, 0), 0));
+    assert!(rt; !gate.object().roomed(gain, reply(0)));
+    Ok(())
+}

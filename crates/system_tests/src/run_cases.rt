@@ -1,0 +1,222 @@
+//! Worked cases of the top call, over files and a sink in memory.
+
+ghost use Rattle.std.specs.Prelude.{◌≤◌};
+
+use galois_run::{Status, run_turns, status_line};
+use gx_base::What;
+use gx_io::{MemFiles, MemSink};
+use std::alloc::Global;
+use std::test::Fail;
+
+const FOUR_NODES: &str =
+    "c example\np max 4 5\nn 1 s\nn 4 t\na 1 2 3\na 1 3 2\na 2 4 2\na 3 4 3\na 2 3 5\n";
+
+const FOUR_NODES_REPORT: &str =
+    "c i 2\nc i 2\nc i 3\nc i 3\ns 5\nf 1 2 3\nf 1 3 2\nf 2 4 2\nf 3 4 3\nf 2 3 1\n";
+
+/// How a run ended, and what it wrote.
+#[derive(Drop)]
+pub(crate) struct Ended {
+    pub status: Status,
+    pub written: Vec<u8>,
+}
+
+/// What is to fail in a run, by the numbers of the calls, and how much a write takes.
+#[derive(Clone, Copy)]
+pub(crate) struct Trouble<'a> {
+    pub reads: &'a [u64],
+    pub writes: &'a [u64],
+    pub most: usize,
+}
+
+pub(crate) const NONE: Trouble = Trouble {
+    reads: &[],
+    writes: &[],
+    most: 65_536,
+};
+
+/// Runs the program on these words, where the file `net` holds this text.
+pub(crate) fn run_words(
+    alloc: Global,
+    words: &[&str],
+    text: &str,
+    trouble: Trouble,
+) -> Result<Ended, Fail>
+    requires { 1 ≤ trouble.most }
+{
+    let mut all = Vec::new(alloc);
+    for word in words {
+        all.push(String::from_str(alloc, word)?)?;
+    }
+    let file = (
+        String::from_str(alloc, "net")?,
+        text.as_bytes().to_vec(alloc)?,
+    );
+    let mut files = MemFiles::new(vec![in alloc; file]?, trouble.reads.to_vec(alloc)?);
+    let Ok(mut sink) = MemSink::new(alloc, trouble.most, trouble.writes.to_vec(alloc)?) else {
+        return Err("no memory".into());
+    };
+    let status = run_turns(alloc, &all, &mut files, &mut sink);
+    Ok(Ended {
+        status,
+        written: sink.bytes().to_vec(alloc)?,
+    })
+}
+
+/// Whether `flow` on this text ends well and writes this report.
+fn reports(alloc: Global, text: &str, report: &str) -> Result<bool, Fail> {
+    let run = run_words(alloc, &["flow", "net"], text, NONE)?;
+    Ok(run.status == Status::Ok && run.written.as_slice() == report.as_bytes())
+}
+
+#[test]
+fn four_node_network(rt: HostRuntime) -> Result<(), Fail> {
+    assert!(rt; reports(rt.alloc(), FOUR_NODES, FOUR_NODES_REPORT)?);
+    Ok(())
+}
+
+#[test]
+fn no_way_to_the_sink(rt: HostRuntime) -> Result<(), Fail> {
+    let alloc = rt.alloc();
+    assert!(rt;
+        reports(
+            alloc,
+            "p max 3 1\nn 1 s\nn 3 t\na 1 2 4\n",
+            "c i 2\nc i 2\ns 0\nf 1 2 0\n",
+        )?
+    );
+    assert!(rt; reports(alloc, "p max 2 0\nn 1 s\nn 2 t\n", "s 0\n")?);
+    Ok(())
+}
+
+#[test]
+fn parallel_arcs(rt: HostRuntime) -> Result<(), Fail> {
+    assert!(rt;
+        reports(
+            rt.alloc(),
+            "p max 2 4\nn 1 s\nn 2 t\na 1 2 3\na 1 2 4\na 2 1 5\na 1 2 0\n",
+            "s 7\nf 1 2 3\nf 1 2 4\nf 2 1 0\nf 1 2 0\n",
+        )?
+    );
+    Ok(())
+}
+
+#[test]
+fn large_capacities(rt: HostRuntime) -> Result<(), Fail> {
+    assert!(rt;
+        reports(
+            rt.alloc(),
+            "p max 3 4\nn 1 s\nn 3 t\na 1 2 1000000000\na 1 2 1000000000\na 2 3 1000000000\na 2 3 1000000000\n",
+            "c i 2\nc i 2\ns 2000000000\nf 1 2 1000000000\nf 1 2 1000000000\nf 2 3 1000000000\nf 2 3 1000000000\n",
+        )?
+    );
+    Ok(())
+}
+
+#[test]
+fn failing_read(rt: HostRuntime) -> Result<(), Fail> {
+    let alloc = rt.alloc();
+    let failing = Trouble {
+        reads: &[1],
+        ..NONE
+    };
+    let run = run_words(alloc, &["flow", "net"], FOUR_NODES, failing)?;
+    assert!(rt; run.status == Status::ReadFault);
+    assert!(rt; run.written.is_empty());
+    let absent = run_words(alloc, &["flow", "absent"], FOUR_NODES, NONE)?;
+    assert!(rt; absent.status == Status::ReadFault);
+    assert!(rt; absent.written.is_empty());
+    Ok(())
+}
+
+#[test]
+fn short_writes(rt: HostRuntime) -> Result<(), Fail> {
+    let alloc = rt.alloc();
+    let third = Trouble {
+        writes: &[2],
+        most: 5,
+        ..NONE
+    };
+    let run = run_words(alloc, &["flow", "net"], FOUR_NODES, third)?;
+    assert!(rt; run.status == Status::WriteFault);
+    assert!(rt; run.written.as_slice() == b"c i 2\nc i ".as_slice());
+    let none = Trouble { most: 5, ..NONE };
+    let whole = run_words(alloc, &["flow", "net"], FOUR_NODES, none)?;
+    assert!(rt; whole.status == Status::Ok);
+    assert!(rt; whole.written.as_slice() == FOUR_NODES_REPORT.as_bytes());
+    Ok(())
+}
+
+#[test]
+fn usage_words(rt: HostRuntime) -> Result<(), Fail> {
+    let alloc = rt.alloc();
+    let wrong: [&[&str]; 10] = [
+        &[],
+        &["flow"],
+        &["flow", "net", "net"],
+        &["flow", "--seed"],
+        &["flow", ""],
+        &["fly", "net"],
+        &["FLOW", "net"],
+        &["classify"],
+        &["classify", "net", "net"],
+        &["classify", "--table"],
+    ];
+    for words in wrong {
+        let run = run_words(alloc, words, FOUR_NODES, NONE)?;
+        assert!(rt; run.status == Status::Usage);
+        assert!(rt; run.written.is_empty());
+    }
+    let dash = run_words(alloc, &["flow", "-net"], FOUR_NODES, NONE)?;
+    assert!(rt; dash.status == Status::ReadFault);
+    Ok(())
+}
+
+#[test]
+fn malformed_file(rt: HostRuntime) -> Result<(), Fail> {
+    let run = run_words(
+        rt.alloc(),
+        &["flow", "net"],
+        "p max 2 1\nn 1 s\nn 2 t\na 0 2 5\n",
+        NONE,
+    )?;
+    assert!(rt; run.status == Status::BadInput { line: 0 });
+    assert!(rt; run.written.is_empty());
+    Ok(())
+}
+
+fn tells(alloc: Global, status: Status, line: &str) -> Result<bool, Fail> {
+    match status_line(alloc, &status) {
+        Ok(told) => Ok(told.as_str() == line),
+        Err(_) => Err("no memory".into()),
+    }
+}
+
+#[test]
+fn status_lines(rt: HostRuntime) -> Result<(), Fail> {
+    let alloc = rt.alloc();
+    assert!(rt; tells(alloc, Status::Ok, "")?);
+    assert!(rt;
+        tells(
+            alloc,
+            Status::Usage,
+            "galois: usage: galois COMMAND WORDS [--name value]..."
+        )?
+    );
+    assert!(rt;
+        tells(
+            alloc,
+            Status::BadInput { line: 0 },
+            "galois: line 0: bad input"
+        )?
+    );
+    assert!(rt;
+        tells(
+            alloc,
+            Status::TooLarge { what: What::File },
+            "galois: too large: file"
+        )?
+    );
+    assert!(rt; tells(alloc, Status::Spent, "galois: spent")?);
+    Ok(())
+}
