@@ -30,10 +30,6 @@ is_absent (b ∷ bs) some last = let one : suc (length bs) - 1 ≡ length bs = o
 
 -- ---- lines
 
-begins_false : (bs : List ℕ) → (get_or bs 0 0 ≡ 10 → ⊥) → begins_with 10 bs ≡ false
-begins_false [] h = refl
-begins_false (b ∷ bs) h = not_eq b 10 h
-
 begins_true : (bs : List ℕ) → get_or bs 0 0 ≡ 10 → begins_with 10 bs ≡ true
 begins_true [] h = absurd (omega (arith, h))
 begins_true (b ∷ bs) h = rw h refl
