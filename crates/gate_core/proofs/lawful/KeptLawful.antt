@@ -3,6 +3,7 @@ use Rattle.std.specs.Prelude.{◌≡◌, ℕ, ◌+◌, ◌≤◌, Bool, true, fa
 use Rattle.std.proofs.Common.{sym, ◌∙◌, ap, subst, arith}
 use Rattle.gx_base.specs.declared.calls.Call.{Call}
 use Rattle.gx_base.specs.declared.items.Item.{Item}
+use Rattle.gx_base.specs.Replays as replays
 use Rattle.gx_base.specs.States.{State}
 use Rattle.gx_base.specs.Steps.{next_state, inverse, observed, IsCall}
 use Rattle.gx_base.specs.Tables.{Rows}
@@ -12,7 +13,7 @@ use Rattle.gate_core.specs.Entries.{mades_of, same_iteration, is_of, entries_of,
 use Rattle.gate_core.specs.Replays.{after, Legal, start_of, AllCalls, pair_ok, PairsFit, AllSawRight, further, first_failing, Stands}
 use Rattle.gate_core.specs.Views.{GateView, rows_of, live_start, start, IsLawfulGate, asked_entry, in_way, admit, undo_entry, undo_last, release}
 use Rattle.gate_core.proofs.lists.EntryLists.{of_same, each_append, each_filter, each_without}
-use Rattle.gate_core.proofs.replays.EntryReplays.{legal_join, calls_append, calls_filter, calls_without}
+use Rattle.gate_core.proofs.replays.EntryReplays.{mades_of-under, legal_join, calls_append, calls_filter, calls_without}
 use Rattle.gate_core.proofs.replays.Swapping.{stands_next}
 use Rattle.gate_core.proofs.replays.Leaving.{AreLive, Parted, parted, undone}
 
@@ -26,14 +27,6 @@ pub record Kept (old new : GateView) : Type 0 where
 pub stands_after : (kind : ℕ) (s : State) (es : List Entry) → Stands kind s → AllCalls es → Stands kind (after s es)
 stands_after kind s [] h c = h
 stands_after kind s (e ∷ es) h c = stands_after kind (next_state s e.call) es (stands_next kind s e.call h c.0) c.1
-
-legal_under : (n : ℕ) (s t : State) (es : List Entry) → Legal s es t → Legal s (done_under n es) t
-legal_under n s t [] l = l
-legal_under n s t (e ∷ es) l = (l.0, legal_under n (next_state s e.call) t es l.1)
-
-calls_under : (n : ℕ) (es : List Entry) → AllCalls es → AllCalls (done_under n es)
-calls_under n [] c = tt
-calls_under n (e ∷ es) c = (c.0, calls_under n es c.1)
 
 -- numbers
 
@@ -147,8 +140,8 @@ release_keeps g worker iter number h below =
     ap (λ k. mark_of k (done_under number ms)) (sym h.mark) ∙ mark_released number g.mark worker iter g.live in
     let low : mark_of 0 g.done ≤ number + 1 = let e : g.mark ≡ mark_of 0 g.done = h.mark in omega arith in
     kept g h m g.state (g.done ++ done_under number ms) os (if has_entry worker iter g.live then number + 1 else g.mark)
-    (calls_append g.done (done_under number ms) h.done_calls (calls_under number ms (calls_filter (is_of worker iter) g.live h.live_calls)))
+    (calls_append g.done (done_under number ms) h.done_calls (subst replays.AreCalls (sym (mades_of-under number ms)) (calls_filter (is_of worker iter) g.live h.live_calls)))
     (calls_filter (λ x. not (is_of worker iter x)) g.live h.live_calls)
-    (legal_join (start g) (live_start g) m g.done (done_under number ms) h.done_legal (legal_under number (live_start g) m ms p.first))
+    (legal_join (start g) (live_start g) m g.done (done_under number ms) h.done_legal (subst (λ mades. replays.Legal (live_start g) mades m) (sym (mades_of-under number ms)) p.first))
     p.rest (rise_append 0 g.done (done_under number ms) h.numbers (rise_under number (mark_of 0 g.done) ms low))
     (sym (mark_of-append 0 g.done (done_under number ms) ∙ marks)) (each_filter (λ x. x.done ≡ None) (λ x. not (is_of worker iter x)) g.live h.uncommitted)

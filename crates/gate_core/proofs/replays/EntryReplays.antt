@@ -1,6 +1,6 @@
 -- Lists of entries, as lists of calls with their replies.
-use Rattle.std.specs.Prelude.{◌≡◌, ℕ, Bool, List, [], ◌∷◌, ◌++◌, filter}
-use Rattle.std.proofs.Common.{sym, subst}
+use Rattle.std.specs.Prelude.{◌≡◌, ℕ, Bool, List, [], ◌∷◌, ◌++◌, filter, refl}
+use Rattle.std.proofs.Common.{sym, ap, subst}
 use Rattle.std.proofs.lemmas.List.{map-append}
 use Rattle.gx_base.specs.declared.calls.Made.{Made}
 use Rattle.gx_base.specs.declared.acts.Entry.{Entry}
@@ -8,12 +8,17 @@ use Rattle.gx_base.specs.States.{State}
 use Rattle.gx_base.specs.Steps.{IsCall}
 use Rattle.gx_base.specs.Replays as replays
 use Rattle.gx_base.proofs.CallerLemmas.{Legal-append}
-use Rattle.gate_core.specs.Entries.{made_of, mades_of, without_last, Each}
+use Rattle.gate_core.specs.Entries.{made_of, mades_of, without_last, done_under, Each}
 use Rattle.gate_core.specs.Replays.{Legal, AllCalls}
 use Rattle.gate_core.proofs.lists.EntryLists.{each_append, each_filter, each_without}
 
 pub mades_of-append : (xs ys : List Entry) → mades_of (xs ++ ys) ≡ mades_of xs ++ mades_of ys
 mades_of-append xs ys = map-append made_of xs ys
+
+-- entries that are done under a number are the same calls
+pub mades_of-under : (number : ℕ) (es : List Entry) → mades_of (done_under number es) ≡ mades_of es
+mades_of-under number [] = refl
+mades_of-under number (e ∷ es) = ap (λ mades. made_of e ∷ mades) (mades_of-under number es)
 
 -- replays join where the first ends
 pub legal_join : (s m t : State) (xs ys : List Entry) → Legal s xs m → Legal m ys t → Legal s (xs ++ ys) t
