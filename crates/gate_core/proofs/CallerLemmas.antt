@@ -5,6 +5,8 @@ pub use Rattle.gate_core.proofs.lists.Others.{none_in_way}
 pub use Rattle.gate_core.proofs.replays.StateTerms.{named_same, named_used, blind}
 pub use Rattle.gate_core.proofs.replays.Swapping.{stands_next, swapped}
 pub use Rattle.gate_core.proofs.replays.Failing.{FailsAt, fails_at}
-pub use Rattle.gate_core.proofs.lawful.KeptLawful.{legal_after, stands_after, start_is, legal_join, legal_append, saw_append, live_stands, state_stands}
+pub use Rattle.gate_core.proofs.lawful.KeptLawful.{stands_after, saw_append, live_stands, state_stands}
+pub use Rattle.gate_core.proofs.lawful.GateLaws.{replays_alone}
+pub use Rattle.gate_core.proofs.replays.EntryReplays.{mades_of-append, mades_of-under, legal_join, calls_append, calls_filter, calls_without}
 pub use Rattle.gate_core.proofs.scans.ScanLemmas.{saw_front, found, all_passed}
 pub use Rattle.gate_core.proofs.scans.PlainTables.{sees_first_alone}

@@ -1,4 +1,5 @@
--- Which methods the object of this crate's tests, an empty set, can always undo.
+-- Which methods the object of this crate's tests, an empty set, can always undo: a lemma, which stands here since an impl's law may
+-- cite no proof of its own crate.
 use Rattle.std.specs.Prelude.{◌≡◌, ℕ, true, false, nat_lt}
 use Rattle.std.proofs.Common.{arith}
 use Rattle.std.proofs.lemmas.Bool.Decides.{nat_tests}

@@ -6,3 +6,4 @@ pub mod Places
 pub mod Swaps
 pub mod Scans
 pub mod EmptySetMethods
+pub mod Homes

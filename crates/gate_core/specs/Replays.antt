@@ -5,7 +5,7 @@ use Rattle.gx_base.specs.declared.conditions.Side.TheVariants.{First, Second}
 use Rattle.gx_base.specs.Conditions.{Condition, holds}
 use Rattle.gx_base.specs.Below.{names_state}
 use Rattle.gx_base.specs.States.{State}
-use Rattle.gx_base.specs.Steps.{next_state, observed, IsState, IsCall}
+use Rattle.gx_base.specs.Steps.{next_state, observed, IsState}
 use Rattle.gx_base.specs.Replays as replays
 use Rattle.gx_base.specs.Tables.{Rows, LooksBack}
 use Rattle.gx_base.specs.declared.acts.Entry.{Entry}
@@ -24,7 +24,7 @@ abbrev pub start_of : State → List Entry → State
 start_of t es = replays.start_of t (mades_of es)
 
 abbrev pub AllCalls : List Entry → Type 0
-AllCalls es = Each (λ e. IsCall e.call) es
+AllCalls es = replays.AreCalls (mades_of es)
 
 abbrev pub seen_at : State → Entry → Entry → Seen
 seen_at s e f = record { first = observed s e.call.a; second = observed s f.call.a }

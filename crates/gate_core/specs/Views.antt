@@ -4,7 +4,7 @@ use Rattle.std.specs.Coded.{Coded, code_by, coded×, coded_ℕ, coded_list}
 use Rattle.gx_base.specs.declared.calls.Call.{Call}
 use Rattle.gx_base.specs.declared.items.Item.{Item}
 use Rattle.gx_base.specs.declared.acts.Entry.{Entry}
-use Rattle.gx_base.specs.contracts.acts.Entry as entry
+use Rattle.gx_base.specs.Entries.{entry_code}
 use Rattle.gx_base.specs.States.{State, state_code}
 use Rattle.gx_base.specs.Steps.{next_state, reply_to, inverse, observed}
 use Rattle.gx_base.specs.TableRows.{RowMap, row_map_code, row_of}
@@ -25,7 +25,7 @@ pub record GateView : Type 0 where
 abbrev pub view_code : Coded GateView
 view_code =
     code_by (ℕ × (RowMap × (State × (List Entry × (List Entry × ℕ)))))
-    (coded× coded_ℕ (coded× row_map_code (coded× state_code (coded× (coded_list (entry.the_row).coded) (coded× (coded_list (entry.the_row).coded) coded_ℕ)))))
+    (coded× coded_ℕ (coded× row_map_code (coded× state_code (coded× (coded_list entry_code) (coded× (coded_list entry_code) coded_ℕ)))))
     (λ g. (g.kind, (g.table, (g.state, (g.done, (g.live, g.mark))))))
     (λ p. record { kind = p.0; table = p.1.0; state = p.1.1.0; done = p.1.1.1.0; live = p.1.1.1.1.0; mark = p.1.1.1.1.1 })
     (λ _. refl)

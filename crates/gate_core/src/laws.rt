@@ -15,6 +15,7 @@ ghost use Rattle.gx_base.specs.TableRows.{RowMap, row_of};
 ghost use Rattle.gx_base.specs.Tables.{Rows, KeepsToKind, IsValid};
 ghost use Rattle.gate_core.specs.Entries.{Each, same_iteration, entries_of, others_than, entries_by};
 ghost use Rattle.gate_core.specs.Replays.{after, Legal, pair_ok, Stands};
+ghost use Rattle.gate_core.specs.Homes.{IsHomedGate};
 ghost use Rattle.gate_core.specs.Swaps.{Swapped};
 ghost use Rattle.gate_core.specs.Views.{GateView, IsLawfulGate, live_start, start, asked_entry, in_way, admit, undo_last, undo_times, release};
 
@@ -66,6 +67,11 @@ pub fn an_iteration_may_come_first()
 /// One worker's live entries alone replay legally after the done ones.
 pub fn a_worker_replays_alone()
     ensures { (g : GateView) (worker : ℕ) → IsLawfulGate g → Legal (start g) (g.done ++ entries_by worker g.live) (after (live_start g) (entries_by worker g.live)) }
+{}
+
+/// What rooms ask of the gates that they hold, each lawful gate has.
+pub fn lawful_gates_may_be_homed()
+    ensures { (g : GateView) → IsLawfulGate g → IsHomedGate g }
 {}
 
 /// Once all entries of an iteration are undone, the state is the replay of all others.

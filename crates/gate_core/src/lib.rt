@@ -7,6 +7,7 @@
 
 mod entries;
 mod gates;
+mod homes;
 pub mod laws;
 mod live;
 mod refusals;

@@ -16,7 +16,8 @@ use Rattle.gate_core.specs.Replays.{Legal, start_of, AllSawRight, LeadTo}
 use Rattle.gate_core.specs.Views.{GateView, IsLawfulGate, rows_of, live_start, asked_entry, in_way, admit}
 use Rattle.gate_core.specs.CallAnswers.{AllRoomed, IsGate, IsAdmitted, TellsOf}
 use Rattle.gate_core.proofs.lists.EntryLists.{each_append, each_same}
-use Rattle.gate_core.proofs.lawful.KeptLawful.{Kept, admit_keeps, legal_append, saw_append, live_stands, state_stands}
+use Rattle.gate_core.proofs.replays.EntryReplays.{legal_join, calls_append}
+use Rattle.gate_core.proofs.lawful.KeptLawful.{Kept, admit_keeps, saw_append, live_stands, state_stands}
 
 start_of-append : (t : State) (es : List Entry) (e : Entry) → start_of t (es ++ e ∷ []) ≡ start_of (inverse t e.call e.reply) es
 start_of-append t [] e = refl
@@ -57,11 +58,11 @@ leads g worker iter item call h c =
     let at : State → Type 0 = λ u. LeadsFrom (rows_of g) u g.live e (next_state g.state call) in
     let all : LeadsFrom (rows_of g) (live_start g) g.live e (next_state g.state call) = record {
       stands = (live_stands g h).is_state;
-      legal = legal_append (live_start g) g.state g.live e h.live_legal refl;
+      legal = legal_join (live_start g) g.state (next_state g.state call) g.live (e ∷ []) h.live_legal (refl, refl);
       saw = saw_append (rows_of g) (live_start g) g.state g.live e h.live_legal h.saw refl;
     } in
     let there : LeadsFrom (rows_of g) (start_of (next_state g.state call) (g.live ++ e ∷ [])) g.live e (next_state g.state call) = subst at same all in
-    record { stands = there.stands; calls = each_append (λ x. IsCall x.call) g.live (e ∷ []) h.live_calls (c, tt); legal = there.legal; saw = there.saw }
+    record { stands = there.stands; calls = calls_append g.live (e ∷ []) h.live_calls (c, tt); legal = there.legal; saw = there.saw }
 
 -- the live entries with the asked one lead to the state after the call
 pub lead_to : (g : GateView) (worker iter : ℕ) (item : Item) (call : Call) (e : Entry) (s : State) (live : List Entry) → IsLawfulGate g → IsCall call → Asks g worker iter item call e s live → LeadTo (rows_of g) live e s

@@ -1,13 +1,15 @@
 -- What follows for lawful gates.
 use Rattle.std.specs.Prelude.{◌≡◌, ℕ, zero, suc, ◌+◌, ◌<◌, ◌≤◌, Bool, true, false, not, ◌||◌, ◌==◌, if◌then◌else◌, Option, Some, None, List, [], ◌∷◌, ◌++◌, filter, length, refl}
-use Rattle.std.proofs.Common.{sym, ◌∙◌, ap, arith}
+use Rattle.std.proofs.Common.{sym, ◌∙◌, ap, subst, arith}
 use Rattle.gx_base.specs.declared.acts.Entry.{Entry}
-use Rattle.gate_core.specs.Entries.{same_iteration, is_of, entries_of, others_than, entries_by, has_entry, last_of, without_last, Each, mark_after, mark_of, NumbersRise}
+use Rattle.gate_core.specs.Entries.{mades_of, same_iteration, is_of, entries_of, others_than, entries_by, has_entry, last_of, without_last, Each, mark_after, mark_of, NumbersRise}
 use Rattle.gate_core.specs.Replays.{after, Legal}
 use Rattle.gate_core.specs.Views.{GateView, rows_of, live_start, start, IsLawfulGate, undo_entry, undo_last, undo_times}
 use Rattle.gate_core.proofs.lists.EntryLists.{neither, both_true, both_ways}
 use Rattle.gate_core.proofs.replays.Leaving.{Parted, parted}
-use Rattle.gate_core.proofs.lawful.KeptLawful.{Kept, undo_keeps, of_whole, live_of, live_stands, legal_after, legal_join}
+use Rattle.gate_core.proofs.lawful.KeptLawful.{Kept, undo_keeps, of_whole, live_of, live_stands}
+use Rattle.gate_core.proofs.replays.EntryReplays.{legal_join}
+use Rattle.gx_base.proofs.CallerLemmas.{after-Legal}
 use Rattle.std.specs.Cmp.{unsigned_Decides}
 
 -- the arrangement leads from the start to the state
@@ -38,6 +40,12 @@ alone g worker h =
     let p : Parted g.kind (rows_of g) h.valid (live_start g) g.state ms (filter (λ e. not (e.worker == worker)) g.live) =
     parted g.kind (rows_of g) h.valid (λ e. e.worker == worker) (by_whole worker) (live_start g) g.state g.live (live_stands g h) h.live_calls (live_of g h) in
     legal_join (start g) (live_start g) (after (live_start g) ms) g.done ms h.done_legal p.first
+
+pub replays_alone : (g : GateView) (worker : ℕ) → IsLawfulGate g → Legal (start g) (g.done ++ entries_by worker g.live) (after (start g) (g.done ++ entries_by worker g.live))
+replays_alone g worker h =
+    let es : List Entry = g.done ++ entries_by worker g.live in
+    let end : after (start g) es ≡ after (live_start g) (entries_by worker g.live) = after-Legal (start g) (after (live_start g) (entries_by worker g.live)) (mades_of es) (alone g worker h) in
+    subst (λ t. Legal (start g) es t) (sym end) (alone g worker h)
 
 -- all calls of an iteration undone
 
@@ -117,7 +125,7 @@ undone_times : (n : ℕ) (g : GateView) (worker iter : ℕ) → IsLawfulGate g �
     → undo_times n g worker iter ≡ record g { state = after (start g) (g.done ++ others_than worker iter g.live); live = others_than worker iter g.live }
 undone_times zero g worker iter h c =
     let same : others_than worker iter g.live ≡ g.live = others_all worker iter g.live (none_counted worker iter g.live c) in
-    let state : after (start g) (g.done ++ others_than worker iter g.live) ≡ g.state = ap (λ es. after (start g) (g.done ++ es)) same ∙ legal_after (start g) g.state (g.done ++ g.live) (replayed g h) in
+    let state : after (start g) (g.done ++ others_than worker iter g.live) ≡ g.state = ap (λ es. after (start g) (g.done ++ es)) same ∙ after-Legal (start g) g.state (mades_of (g.done ++ g.live)) (replayed g h) in
     λ i. record g { state = sym state i; live = sym same i }
 undone_times (suc n) g worker iter h c =
     let k : Kept g (undo_last g worker iter) = undo_keeps g worker iter h in

@@ -3,15 +3,17 @@ use Rattle.std.specs.Prelude.{◌≡◌, ℕ, ◌+◌, ◌≤◌, Bool, true, fa
 use Rattle.std.proofs.Common.{sym, ◌∙◌, ap, subst, arith}
 use Rattle.gx_base.specs.declared.calls.Call.{Call}
 use Rattle.gx_base.specs.declared.items.Item.{Item}
+use Rattle.gx_base.specs.Replays as replays
 use Rattle.gx_base.specs.States.{State}
-use Rattle.gx_base.specs.Steps.{next_state, reply_to, inverse, observed, IsState, IsCall}
+use Rattle.gx_base.specs.Steps.{next_state, inverse, observed, IsCall}
 use Rattle.gx_base.specs.Tables.{Rows}
-use Rattle.gx_base.proofs.CallerLemmas.{undoes, next_state-IsState}
+use Rattle.gx_base.proofs.CallerLemmas.{after-Legal, start_of-Legal}
 use Rattle.gx_base.specs.declared.acts.Entry.{Entry}
-use Rattle.gate_core.specs.Entries.{same_iteration, is_of, entries_of, others_than, has_entry, last_of, without_last, done_under, Each, mark_after, mark_of, NumbersRise}
+use Rattle.gate_core.specs.Entries.{mades_of, same_iteration, is_of, entries_of, others_than, has_entry, last_of, without_last, done_under, Each, mark_after, mark_of, NumbersRise}
 use Rattle.gate_core.specs.Replays.{after, Legal, start_of, AllCalls, pair_ok, PairsFit, AllSawRight, further, first_failing, Stands}
 use Rattle.gate_core.specs.Views.{GateView, rows_of, live_start, start, IsLawfulGate, asked_entry, in_way, admit, undo_entry, undo_last, release}
 use Rattle.gate_core.proofs.lists.EntryLists.{of_same, each_append, each_filter, each_without}
+use Rattle.gate_core.proofs.replays.EntryReplays.{mades_of-under, legal_join, calls_append, calls_filter, calls_without}
 use Rattle.gate_core.proofs.replays.Swapping.{stands_next}
 use Rattle.gate_core.proofs.replays.Leaving.{AreLive, Parted, parted, undone}
 
@@ -22,32 +24,9 @@ pub record Kept (old new : GateView) : Type 0 where
 
 -- replays
 
-pub legal_after : (s t : State) (es : List Entry) → Legal s es t → after s es ≡ t
-legal_after s t [] l = l
-legal_after s t (e ∷ es) l = legal_after (next_state s e.call) t es l.1
-
 pub stands_after : (kind : ℕ) (s : State) (es : List Entry) → Stands kind s → AllCalls es → Stands kind (after s es)
 stands_after kind s [] h c = h
 stands_after kind s (e ∷ es) h c = stands_after kind (next_state s e.call) es (stands_next kind s e.call h c.0) c.1
-
--- the start is what the inverses give
-pub start_is : (s t : State) (es : List Entry) → IsState s → AllCalls es → Legal s es t → start_of t es ≡ s
-start_is s t [] h a l = sym l
-start_is s t (e ∷ es) h a l =
-    ap (λ u. inverse u e.call e.reply) (start_is (next_state s e.call) t es (next_state-IsState s e.call h a.0) a.1 l.1)
-    ∙ ap (inverse (next_state s e.call) e.call) (sym l.0) ∙ undoes s e.call h a.0
-
-pub legal_join : (s m t : State) (xs ys : List Entry) → Legal s xs m → Legal m ys t → Legal s (xs ++ ys) t
-legal_join s m t [] ys p q = subst (λ u. Legal u ys t) (sym p) q
-legal_join s m t (x ∷ xs) ys p q = (p.0, legal_join (next_state s x.call) m t xs ys p.1 q)
-
-legal_under : (n : ℕ) (s t : State) (es : List Entry) → Legal s es t → Legal s (done_under n es) t
-legal_under n s t [] l = l
-legal_under n s t (e ∷ es) l = (l.0, legal_under n (next_state s e.call) t es l.1)
-
-calls_under : (n : ℕ) (es : List Entry) → AllCalls es → AllCalls (done_under n es)
-calls_under n [] c = tt
-calls_under n (e ∷ es) c = (c.0, calls_under n es c.1)
 
 -- numbers
 
@@ -82,19 +61,19 @@ pub live_of : (g : GateView) → IsLawfulGate g → AreLive (rows_of g) (live_st
 live_of g h = record { legal = h.live_legal; pairs = h.pairs; saw = h.saw }
 
 pub live_stands : (g : GateView) → IsLawfulGate g → Stands g.kind (live_start g)
-live_stands g h = subst (Stands g.kind) (legal_after (start g) (live_start g) g.done h.done_legal) (stands_after g.kind (start g) g.done h.stands h.done_calls)
+live_stands g h = subst (Stands g.kind) (after-Legal (start g) (live_start g) (mades_of g.done) h.done_legal) (stands_after g.kind (start g) g.done h.stands h.done_calls)
 
 pub state_stands : (g : GateView) → IsLawfulGate g → Stands g.kind g.state
-state_stands g h = subst (Stands g.kind) (legal_after (live_start g) g.state g.live h.live_legal) (stands_after g.kind (live_start g) g.live (live_stands g h) h.live_calls)
+state_stands g h = subst (Stands g.kind) (after-Legal (live_start g) g.state (mades_of g.live) h.live_legal) (stands_after g.kind (live_start g) g.live (live_stands g h) h.live_calls)
 
 -- what replays from the same start is lawful
 pub kept : (g : GateView) (h : IsLawfulGate g) (m t : State) (done live : List Entry) (mark : ℕ) → AllCalls done → AllCalls live → Legal (start g) done m → AreLive (rows_of g) m live t
     → NumbersRise 0 done → mark ≡ mark_of 0 done → Each (λ e. e.done ≡ None) live → Kept g (record g { state = t; done = done; live = live; mark = mark })
 kept g h m t done live mark cd cl ld a n k u =
     let s : State = start g in
-    let hm : Stands g.kind m = subst (Stands g.kind) (legal_after s m done ld) (stands_after g.kind s done h.stands cd) in
-    let mid : start_of t live ≡ m = start_is m t live hm.is_state cl a.legal in
-    let whole : start_of (start_of t live) done ≡ s = ap (λ v. start_of v done) mid ∙ start_is s m done h.stands.is_state cd ld in
+    let hm : Stands g.kind m = subst (Stands g.kind) (after-Legal s m (mades_of done) ld) (stands_after g.kind s done h.stands cd) in
+    let mid : start_of t live ≡ m = start_of-Legal m t (mades_of live) hm.is_state cl a.legal in
+    let whole : start_of (start_of t live) done ≡ s = ap (λ v. start_of v done) mid ∙ start_of-Legal s m (mades_of done) h.stands.is_state cd ld in
     record {
       lawful = record {
         valid = h.valid;
@@ -118,10 +97,6 @@ both_parts true None e = (refl, refl)
 both_parts true (Some x) e = absurd (cc)
 both_parts false o e = absurd (cc)
 
-pub legal_append : (s t : State) (es : List Entry) (f : Entry) → Legal s es t → reply_to t f.call ≡ f.reply → Legal s (es ++ f ∷ []) (next_state t f.call)
-legal_append s t [] f l r = (ap (λ u. reply_to u f.call) l ∙ r, ap (λ u. next_state u f.call) l)
-legal_append s t (e ∷ es) f l r = (l.0, legal_append (next_state s e.call) t es f l.1 r)
-
 pub saw_append : (rows : Rows) (s t : State) (es : List Entry) (f : Entry) → Legal s es t → AllSawRight rows s es → f.seen ≡ observed t f.call.a → AllSawRight rows s (es ++ f ∷ [])
 saw_append rows s t [] f l w q = (λ _. q ∙ ap (λ u. observed u f.call.a) (sym l), tt)
 saw_append rows s t (e ∷ es) f l w q = (w.0, saw_append rows (next_state s e.call) t es f l.1 w.1 q)
@@ -136,12 +111,12 @@ pairs_append rows s (e ∷ es) f p n =
 pub admit_keeps : (g : GateView) (worker iter : ℕ) (item : Item) (call : Call) → IsLawfulGate g → IsCall call → in_way g (asked_entry worker iter item call g.state) ≡ None → Kept g (admit g worker iter item call)
 admit_keeps g worker iter item call h c n =
     let e : Entry = asked_entry worker iter item call g.state in
-    kept g h (live_start g) (next_state g.state call) g.done (g.live ++ e ∷ []) g.mark h.done_calls (each_append (λ x. IsCall x.call) g.live (e ∷ []) h.live_calls (c, tt)) h.done_legal
-    (record { legal = legal_append (live_start g) g.state g.live e h.live_legal refl; pairs = pairs_append (rows_of g) (live_start g) g.live e h.pairs n; saw = saw_append (rows_of g) (live_start g) g.state g.live e h.live_legal h.saw refl }) h.numbers h.mark (each_append (λ x. x.done ≡ None) g.live (e ∷ []) h.uncommitted (refl, tt))
+    kept g h (live_start g) (next_state g.state call) g.done (g.live ++ e ∷ []) g.mark h.done_calls (calls_append g.live (e ∷ []) h.live_calls (c, tt)) h.done_legal
+    (record { legal = legal_join (live_start g) g.state (next_state g.state call) g.live (e ∷ []) h.live_legal (refl, refl); pairs = pairs_append (rows_of g) (live_start g) g.live e h.pairs n; saw = saw_append (rows_of g) (live_start g) g.state g.live e h.live_legal h.saw refl }) h.numbers h.mark (each_append (λ x. x.done ≡ None) g.live (e ∷ []) h.uncommitted (refl, tt))
 
 pub undo_entry_keeps : (g : GateView) (worker iter : ℕ) (u : Entry) → IsLawfulGate g → last_of worker iter g.live ≡ Some u → Kept g (undo_entry g worker iter (Some u))
 undo_entry_keeps g worker iter u h k =
-    kept g h (live_start g) (inverse g.state u.call u.reply) g.done (without_last worker iter g.live) g.mark h.done_calls (each_without (λ x. IsCall x.call) worker iter g.live h.live_calls) h.done_legal
+    kept g h (live_start g) (inverse g.state u.call u.reply) g.done (without_last worker iter g.live) g.mark h.done_calls (calls_without worker iter g.live h.live_calls) h.done_legal
     (undone g.kind (rows_of g) h.valid (live_start g) g.state worker iter u g.live (live_stands g h) h.live_calls (live_of g h) k) h.numbers h.mark (each_without (λ x. x.done ≡ None) worker iter g.live h.uncommitted)
 
 undo_keeps_by : (g : GateView) (worker iter : ℕ) (o : Option Entry) → last_of worker iter g.live ≡ o → IsLawfulGate g → Kept g (undo_entry g worker iter o)
@@ -165,8 +140,8 @@ release_keeps g worker iter number h below =
     ap (λ k. mark_of k (done_under number ms)) (sym h.mark) ∙ mark_released number g.mark worker iter g.live in
     let low : mark_of 0 g.done ≤ number + 1 = let e : g.mark ≡ mark_of 0 g.done = h.mark in omega arith in
     kept g h m g.state (g.done ++ done_under number ms) os (if has_entry worker iter g.live then number + 1 else g.mark)
-    (each_append (λ x. IsCall x.call) g.done (done_under number ms) h.done_calls (calls_under number ms (each_filter (λ x. IsCall x.call) (is_of worker iter) g.live h.live_calls)))
-    (each_filter (λ x. IsCall x.call) (λ x. not (is_of worker iter x)) g.live h.live_calls)
-    (legal_join (start g) (live_start g) m g.done (done_under number ms) h.done_legal (legal_under number (live_start g) m ms p.first))
+    (calls_append g.done (done_under number ms) h.done_calls (subst replays.AreCalls (sym (mades_of-under number ms)) (calls_filter (is_of worker iter) g.live h.live_calls)))
+    (calls_filter (λ x. not (is_of worker iter x)) g.live h.live_calls)
+    (legal_join (start g) (live_start g) m g.done (done_under number ms) h.done_legal (subst (λ mades. replays.Legal (live_start g) mades m) (sym (mades_of-under number ms)) p.first))
     p.rest (rise_append 0 g.done (done_under number ms) h.numbers (rise_under number (mark_of 0 g.done) ms low))
     (sym (mark_of-append 0 g.done (done_under number ms) ∙ marks)) (each_filter (λ x. x.done ≡ None) (λ x. not (is_of worker iter x)) g.live h.uncommitted)

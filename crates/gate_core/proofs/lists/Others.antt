@@ -1,7 +1,7 @@
 -- How many entries are of another iteration than the first of them.
 use Rattle.std.specs.Prelude.{◌≡◌, ℕ, ◌+◌, ◌<◌, ◌≤◌, ◌&&◌, ◌||◌, Bool, true, false, not, if◌then◌else◌, Option, Some, None, List, [], ◌∷◌, ◌++◌, length, take, drop, remove, refl}
 use Rattle.std.proofs.Common.{zero, suc, sym, ◌∙◌, ap, arith, get_or}
-use Rattle.std.proofs.lemmas.List.{take_more, take-append-drop, append-nil}
+use Rattle.std.proofs.lemmas.List.{take-append-drop}
 use Rattle.std.proofs.Math.Seq.{drop-cons}
 use Rattle.std.specs.Cmp.{unsigned_Decides}
 use Rattle.gx_base.specs.Conditions.{holds}
@@ -11,7 +11,6 @@ use Rattle.gx_base.specs.Tables.{Rows}
 use Rattle.gx_base.specs.declared.acts.Entry.{Entry}
 use Rattle.gate_core.specs.Entries.{made_of, is_of, others_than, others_of_first, one_if_other}
 use Rattle.gate_core.specs.Replays.{seen_at, further, first_failing}
-use Rattle.gate_core.proofs.lists.EntryLists.{numbers_of}
 
 is_of_own : (x : Entry) → is_of x.worker x.iter x ≡ true
 is_of_own x = λ i. (unsigned_Decides x.worker x.worker).1 refl i && (unsigned_Decides x.iter x.iter).1 refl i
@@ -30,12 +29,6 @@ module _ (worker iter : ℕ) where
   others_with [] ys x = here x (others_than worker iter ys) (is_of worker iter x)
   others_with (y ∷ xs) ys x = further_on y (others_than worker iter (xs ++ x ∷ ys)) (others_than worker iter (xs ++ ys)) (is_of worker iter y) (if is_of worker iter x then 0 else 1) (others_with xs ys x)
 
-  -- a walk counts one entry more
-  pub others_more : (es : List Entry) (i : ℕ) (d : Entry) → i < length es → length (others_than worker iter (take (i + 1) es)) ≡ length (others_than worker iter (take i es)) + (if is_of worker iter (get_or es i d) then 0 else 1)
-  others_more es i d h =
-      ap (λ xs. length (others_than worker iter xs)) (take_more es i d h) ∙ others_with (take i es) [] (get_or es i d)
-      ∙ ap (λ xs. length (others_than worker iter xs) + (if is_of worker iter (get_or es i d) then 0 else 1)) (append-nil (take i es))
-
   -- no more than all entries
   fewer_by : (y : Entry) (os es : List Entry) (b : Bool) → length os ≤ length es → length (if not b then y ∷ os else os) ≤ length (y ∷ es)
   fewer_by y os es true h = omega arith
@@ -44,12 +37,6 @@ module _ (worker iter : ℕ) where
   pub others_within : (es : List Entry) → length (others_than worker iter es) ≤ length es
   others_within [] = omega arith
   others_within (y ∷ es) = fewer_by y (others_than worker iter es) es (is_of worker iter y) (others_within es)
-
--- an entry that comes last
-pub others_pushed : (es : List Entry) (x : Entry) → others_of_first (es ++ x ∷ []) ≡ others_of_first es + one_if_other es x
-others_pushed [] x = ap (λ (b : Bool). length (if not b then x ∷ [] else [])) (is_of_own x)
-others_pushed (e ∷ es) x =
-    others_with e.worker e.iter (e ∷ es) [] x ∙ ap (λ xs. length (others_than e.worker e.iter (e ∷ xs)) + (if is_of e.worker e.iter x then 0 else 1)) (append-nil es)
 
 -- an entry after the first is taken out
 pub others_removed : (es : List Entry) (place : ℕ) (x : Entry) → 0 < place → place < length es → x ≡ get_or es place x → others_of_first es ≡ others_of_first (remove es place) + one_if_other (remove es place) x
@@ -71,34 +58,6 @@ first_within (e ∷ es) x =
     at_most_one : (b : Bool) → (if b then 0 else 1) ≤ 1
     at_most_one true = omega arith
     at_most_one false = omega arith
-
--- where the first is of an iteration, its others are counted
-first_of : (worker iter : ℕ) (e : Entry) (es : List Entry) → is_of worker iter e ≡ true → others_of_first (e ∷ es) ≡ length (others_than worker iter (e ∷ es))
-first_of worker iter e es q =
-    let n : (e.worker ≡ worker) × (e.iter ≡ iter) = numbers_of worker iter e q in
-    λ i. length (others_than (n.0 i) (n.1 i) (e ∷ es))
-
-none_left : (es : List Entry) → length es ≡ 0 → es ≡ []
-none_left [] n = refl
-none_left (e ∷ es) n = absurd (omega arith)
-
--- an iteration is alone where the first entry is its own and no other is counted
-pub alone : (worker iter : ℕ) (es : List Entry) (d : Entry) → 0 < length es → is_of worker iter (get_or es 0 d) ≡ true → others_of_first es ≡ 0 → others_than worker iter es ≡ []
-alone worker iter [] d h q n = refl
-alone worker iter (e ∷ es) d h q n = none_left (others_than worker iter (e ∷ es)) (sym (first_of worker iter e es q) ∙ n)
-
-first_own : (e : Entry) (os : List Entry) (b : Bool) → (if not b then e ∷ os else os) ≡ [] → b ≡ true
-first_own e os true n = refl
-first_own e os false n = absurd (cc)
-
--- and only there
-pub alone_first : (worker iter : ℕ) (es : List Entry) (d : Entry) → 0 < length es → others_than worker iter es ≡ [] → is_of worker iter (get_or es 0 d) ≡ true
-alone_first worker iter [] d h n = absurd (omega arith)
-alone_first worker iter (e ∷ es) d h n = first_own e (others_than worker iter es) (is_of worker iter e) n
-
-pub alone_counts : (worker iter : ℕ) (es : List Entry) → others_than worker iter es ≡ [] → others_of_first es ≡ 0
-alone_counts worker iter [] n = refl
-alone_counts worker iter (e ∷ es) n = first_of worker iter e es (first_own e (others_than worker iter es) (is_of worker iter e) n) ∙ ap length n
 
 -- no entry is in the way of a call of the iteration that is alone
 module _ (rows : Rows) (asked : Entry) where

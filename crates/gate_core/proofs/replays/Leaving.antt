@@ -10,6 +10,7 @@ use Rattle.gate_core.specs.Entries.{same_iteration, is_of, has_entry, last_of, w
 use Rattle.gate_core.specs.Replays.{after, Legal, AllCalls, pair_ok, PairsFit, SawRight, AllSawRight, Stands}
 use Rattle.gate_core.proofs.lists.EntryLists.{some_same, neither, of_same, same_turn, each_filter, each_without, each_same}
 use Rattle.gate_core.specs.Swaps.{Swapped}
+use Rattle.gate_core.proofs.replays.EntryReplays.{calls_filter}
 use Rattle.gate_core.proofs.replays.Swapping.{stands_next, swapped}
 
 -- none of the entries is of the entry's iteration
@@ -84,7 +85,7 @@ module _ (kind : ℕ) (rows : Rows) (valid : IsValid kind rows) where
         → Parted s t (if b then e ∷ filter chosen es else filter chosen es) (if not b then e ∷ filter (λ x. not (chosen x)) es else filter (λ x. not (chosen x)) es)
     parted_by s t e es true q h c cs l r = record { first = (l.legal.0, r.first); rest = r.rest }
     parted_by s t e es false q h c cs l r =
-        jump s t e (filter chosen es) (filter (λ x. not (chosen x)) es) h c (each_filter (λ x. IsCall x.call) chosen es cs) l.legal.0 l.saw.0
+        jump s t e (filter chosen es) (filter (λ x. not (chosen x)) es) h c (calls_filter chosen es cs) l.legal.0 l.saw.0
         (each_filter (λ x. pair_ok rows s e x ≡ true) chosen es l.pairs.0) (each_filter (λ x. pair_ok rows s e x ≡ true) (λ x. not (chosen x)) es l.pairs.0) (none_chosen e es q) r
 
     -- the chosen entries may be made first
