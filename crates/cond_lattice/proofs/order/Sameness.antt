@@ -3,7 +3,8 @@ use Rattle.std.specs.Prelude.{◌≡◌, ℤ, Bool, true, false, not, ◌&&◌, 
 use Rattle.std.proofs.Common.{sym, ap, ◌∙◌, inl, inr, subst}
 use Rattle.std.specs.Ordering.{int_eq}
 use Rattle.std.proofs.lemmas.Bool.{and_parts, and_from, or_cases, or_left, or_right, eqb-true, eq-eqb}
-use Rattle.std.proofs.lemmas.Bool.Decides.{Decides-int_eq}
+use Rattle.std.specs.Bool.{Decides}
+use Rattle.std.proofs.lemmas.Bool.Decides.{Decides-int_eq, same_from_decides}
 use Rattle.gx_base.specs.declared.calls.Made.{Made}
 use Rattle.gx_base.specs.declared.calls.Seen.{Seen}
 use Rattle.gx_base.specs.declared.conditions.Side.{Side}
@@ -61,6 +62,10 @@ same_term-refl (Const n) = (Decides-int_eq n n).1 refl
 same_term-refl (Value s i) = and_from _ _ (same_side-refl s) (eq-eqb i i refl)
 same_term-refl (Beyond x y z) = and_from _ _ (and_from _ _ (same_part-refl x) (same_part-refl y)) (same_part-refl z)
 same_term-refl (State s) = same_side-refl s
+
+-- whatever tells whether two terms are equal says what `same_term` says
+pub equals_same : (b : Bool) (x y : Term) → Decides b (x ≡ y) → b ≡ same_term x y
+equals_same b x y d = same_from_decides b (same_term x y) d (same_term-is x y, λ e. subst (λ z. same_term x z ≡ true) e (same_term-refl x))
 
 int_eq-flip : (x y : ℤ) (b : Bool) → int_eq y x ≡ b → int_eq x y ≡ b
 int_eq-flip x y true e = (Decides-int_eq x y).1 (sym ((Decides-int_eq y x).0 e))
