@@ -2,9 +2,7 @@
 use Rattle.std.specs.Prelude.{◌≡◌, Bool, true, false, ◌&&◌, ◌||◌, nat_lt, cond, refl}
 use Rattle.std.proofs.Common.{sym, ap, ◌∙◌, inl, inr, subst}
 use Rattle.std.proofs.Math.Bool.{or_comm, and_comm}
-use Rattle.gx_base.specs.Conditions.{Condition, True, False, And, Or, is_false}
-use Rattle.cond_lattice.specs.Same.{same_condition}
-use Rattle.cond_lattice.specs.Simple.{is_true}
+use Rattle.gx_base.specs.Conditions.{Condition, True, False, And, Or}
 use Rattle.cond_lattice.specs.Derivations.{is_derived}
 use Rattle.cond_lattice.specs.AnswerRows.{AreSides, is_joined, is_and, rows_of, heavy_of, light_of, lower_answer_of, upper_answer_of}
 use Rattle.cond_lattice.proofs.order.Derived.{is_derived-and, is_derived-true, or_left_above, or_right_above}
