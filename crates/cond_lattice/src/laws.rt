@@ -11,7 +11,7 @@ ghost use Rattle.gx_base.specs.Conditions.{Condition, Ne, holds, is_false};
 ghost use Rattle.gx_base.specs.Kinds.{kind_number};
 ghost use Rattle.gx_base.specs.Tables.{Rows};
 ghost use Rattle.cond_lattice.specs.declared.grades.Grade.TheVariants.{General};
-ghost use Rattle.cond_lattice.specs.Grades.{grade_of, is_simple, table_grade};
+ghost use Rattle.cond_lattice.specs.Grades.{grade_of, is_simple, table_grade, IsGreatestClass};
 ghost use Rattle.cond_lattice.specs.Simple.{stands_in};
 
 /// A simple condition other than `False` holds exactly where each inequality that stands in it does.
@@ -27,4 +27,9 @@ pub fn below_keeps_out_general_rows()
         → (first second : ℕ) → grade_of (upper first second) ≢ General → grade_of (lower first second) ≢ General }
     ensures tables { (kind : Kind) (lower upper : Rows) → AreBelow lower upper
         → table_grade (kind_number kind) upper ≢ General → table_grade (kind_number kind) lower ≢ General }
+{}
+
+/// The class that `table_grade` gives a table is the greatest of its rows over the pairs of methods of the kind.
+pub fn table_grade_is_greatest()
+    ensures { (kind : Kind) (rows : Rows) → IsGreatestClass (kind_number kind) rows (table_grade (kind_number kind) rows) }
 {}

@@ -12,9 +12,11 @@ use gx_base::{Cond, Side};
 /// first row names stands in the second.
 ///
 /// No memory is taken, but for stack: a KiB for conditions as tables have them, and 4 MiB at most. Where c has
-/// n parts and d has m, it takes n * m steps as long as log2(n + 1) rows of m answers fit there, as they do up
-/// to some 200,000 parts on both sides. Beyond that the plain rules are tried one by one down to parts whose
-/// rows fit, and may meet one pair of parts along many ways.
+/// n parts and d has m, each pair of parts is looked at once, as long as log2(n + 1) rows of m answers fit
+/// there, as they do up to some 200,000 parts on both sides. That is n * m steps, where two parts are compared
+/// with all that stands in a `not`; besides, what stands in a part of c is walked once more for each part
+/// around it, which makes n times the depth of c. Beyond that the plain rules are tried one by one down to
+/// parts whose rows fit, and may meet one pair of parts along many ways.
 pub fn row_below(c: &Cond, d: &Cond) -> bool
     ensures rules { IsTrue result ↔ IsRowBelow (condition_of c.now) (condition_of d.now) }
     ensures sound { IsTrue result → IsBelow (condition_of c.now) (condition_of d.now) }

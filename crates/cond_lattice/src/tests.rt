@@ -6,7 +6,9 @@ ghost use Rattle.gx_base.specs.declared.conditions.Term.TheVariants.{Value as Va
 ghost use Rattle.gx_base.specs.Conditions.{condition_of, Ne as NeCondition, And as AndCondition};
 
 use crate::decisions::{is_derived, is_derived_apart};
-use crate::laws::{below_keeps_out_general_rows, simple_holds_by_its_inequalities};
+use crate::laws::{
+    below_keeps_out_general_rows, simple_holds_by_its_inequalities, table_grade_is_greatest,
+};
 use crate::{Grade, below, class, join, meet, row_below, simple_below, strengthen, table_class};
 use gx_base::{Cond, Kind, NoMemory, Side, Table, Term};
 use std::alloc::Global;
@@ -105,6 +107,7 @@ fn conditions_have_their_classes(rt: HostRuntime) {
     assert!(rt; is_of(&Cond::Ne(A1, Term::State(Side::Second)), Grade::General));
     simple_holds_by_its_inequalities();
     below_keeps_out_general_rows();
+    table_grade_is_greatest();
 }
 
 /// Whether the first set's table has a row that isn't below the other's, for these two methods.

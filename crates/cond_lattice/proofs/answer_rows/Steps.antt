@@ -2,16 +2,10 @@
 use Rattle.std.specs.Prelude.{◌≡◌, Bool, true, false, ◌&&◌, ◌||◌, nat_lt, cond, refl}
 use Rattle.std.proofs.Common.{sym, ap, ◌∙◌, inl, inr, subst}
 use Rattle.std.proofs.Math.Bool.{or_comm, and_comm}
-use Rattle.gx_base.specs.Conditions.{Condition, True, False, And, Or, is_false}
-use Rattle.cond_lattice.specs.Same.{same_condition}
-use Rattle.cond_lattice.specs.Simple.{is_true}
+use Rattle.gx_base.specs.Conditions.{Condition, True, False, And, Or}
 use Rattle.cond_lattice.specs.Derivations.{is_derived}
 use Rattle.cond_lattice.specs.AnswerRows.{AreSides, is_joined, is_and, rows_of, heavy_of, light_of, lower_answer_of, upper_answer_of}
 use Rattle.cond_lattice.proofs.order.Derived.{is_derived-and, is_derived-true, or_left_above, or_right_above}
-
-pub sides_joined : (c x y : Condition) → AreSides c x y → is_joined c ≡ true
-sides_joined c x y (inl e) = ap is_joined e
-sides_joined c x y (inr e) = ap is_joined e
 
 -- ---- where the lower one is an `and` or an `or`
 
@@ -71,13 +65,6 @@ unit_or _ x y e = or_false _
 pub unit_step : (c d x y : Condition) → is_joined c ≡ false → AreSides d x y → is_derived c d ≡ upper_answer_of (is_and d) (is_derived c x) (is_derived c y) false
 unit_step c d x y e (inl f) = subst (λ d. is_derived c d ≡ upper_answer_of (is_and d) (is_derived c x) (is_derived c y) false) (sym f) (is_derived-and c x y)
 unit_step c d x y e (inr f) = subst (λ d. is_derived c d ≡ upper_answer_of (is_and d) (is_derived c x) (is_derived c y) false) (sym f) (unit_or c x y e)
-
-pub unit_leaf : (c d : Condition) → is_joined c ≡ false → is_joined d ≡ false → is_derived c d ≡ (is_false c || is_true d || same_condition c d)
-unit_leaf (And p q) d e f = absurd (cc)
-unit_leaf (Or p q) d e f = absurd (cc)
-unit_leaf _ (And x y) e f = absurd (cc)
-unit_leaf _ (Or x y) e f = absurd (cc)
-unit_leaf _ _ e f = refl
 
 -- ---- which of the sides of the lower one comes first is the same
 

@@ -260,10 +260,6 @@ implied_stands c d plain near f _ _ far h = absurd (let across : false ≡ true 
 chosen_far : (c : Condition) → is_plain c ≡ true → is_near c ≡ true → stands_in (Value First 0) (Value Second 8) c ≡ false
 chosen_far c plain near = false_by _ (λ h. let far : IsNearAcross (Value First 0) (Value Second 8) = stands_near _ _ c plain near h in let never : false ≡ true = far.near_right in cc)
 
-plain_not_false : (c : Condition) → is_plain c ≡ true → is_false c ≡ false
-plain_not_false False e = absurd (cc)
-plain_not_false _ e = refl
-
 plain_implies : (c d : Condition) → is_plain c ≡ true → is_simple d ≡ true → is_near c ≡ true → is_near d ≡ true → Implies c d → simply_below c d ≡ true
 plain_implies c d plain simple near_c near_d f = or_right _ _ (by_cases (is_false d) refl)
   where

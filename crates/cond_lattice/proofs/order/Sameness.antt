@@ -3,7 +3,8 @@ use Rattle.std.specs.Prelude.{◌≡◌, ℤ, Bool, true, false, not, ◌&&◌, 
 use Rattle.std.proofs.Common.{sym, ap, ◌∙◌, inl, inr, subst}
 use Rattle.std.specs.Ordering.{int_eq}
 use Rattle.std.proofs.lemmas.Bool.{and_parts, and_from, or_cases, or_left, or_right, eqb-true, eq-eqb}
-use Rattle.std.proofs.lemmas.Bool.Decides.{Decides-int_eq}
+use Rattle.std.specs.Bool.{Decides}
+use Rattle.std.proofs.lemmas.Bool.Decides.{Decides-int_eq, same_from_decides}
 use Rattle.gx_base.specs.declared.calls.Made.{Made}
 use Rattle.gx_base.specs.declared.calls.Seen.{Seen}
 use Rattle.gx_base.specs.declared.conditions.Side.{Side}
@@ -62,6 +63,10 @@ same_term-refl (Value s i) = and_from _ _ (same_side-refl s) (eq-eqb i i refl)
 same_term-refl (Beyond x y z) = and_from _ _ (and_from _ _ (same_part-refl x) (same_part-refl y)) (same_part-refl z)
 same_term-refl (State s) = same_side-refl s
 
+-- whatever tells whether two terms are equal says what `same_term` says
+pub equals_same : (b : Bool) (x y : Term) → Decides b (x ≡ y) → b ≡ same_term x y
+equals_same b x y d = same_from_decides b (same_term x y) d (same_term-is x y, λ e. subst (λ z. same_term x z ≡ true) e (same_term-refl x))
+
 int_eq-flip : (x y : ℤ) (b : Bool) → int_eq y x ≡ b → int_eq x y ≡ b
 int_eq-flip x y true e = (Decides-int_eq x y).1 (sym ((Decides-int_eq y x).0 e))
 int_eq-flip x y false e = by_cases (int_eq x y) refl
@@ -103,6 +108,36 @@ holds-Same (in_not s) first second seen = ap not (holds-Same s first second seen
 
 -- `same_condition` says yes exactly of conditions that are the same
 
+terms_themselves : (x y : Term) → (same_term x x && same_term y y) ≡ true
+terms_themselves x y = and_from _ _ (same_term-refl x) (same_term-refl y)
+
+-- an equation is the same as itself with its sides exchanged, and so is an inequality
+
+exchanged_equation : (x y : Term) → same_condition (Eq x y) (Eq y x) ≡ true
+exchanged_equation x y = or_right _ _ (terms_themselves x y)
+
+exchanged_inequality : (x y : Term) → same_condition (Ne x y) (Ne y x) ≡ true
+exchanged_inequality x y = or_right _ _ (terms_themselves x y)
+
+same_condition-refl : (c : Condition) → same_condition c c ≡ true
+same_condition-refl True = refl
+same_condition-refl False = refl
+same_condition-refl (Eq x y) = or_left _ _ (terms_themselves x y)
+same_condition-refl (Ne x y) = or_left _ _ (terms_themselves x y)
+same_condition-refl (Lt x y) = terms_themselves x y
+same_condition-refl (Le x y) = terms_themselves x y
+same_condition-refl (And a b) = and_from _ _ (same_condition-refl a) (same_condition-refl b)
+same_condition-refl (Or a b) = and_from _ _ (same_condition-refl a) (same_condition-refl b)
+same_condition-refl (Not a) = same_condition-refl a
+
+pub same_by : {c d : Condition} → Same c d → same_condition c d ≡ true
+same_by (equal {c}) = same_condition-refl c
+same_by (equation {x} {y}) = exchanged_equation x y
+same_by (inequality {x} {y}) = exchanged_inequality x y
+same_by (in_and s t) = and_from _ _ (same_by s) (same_by t)
+same_by (in_or s t) = and_from _ _ (same_by s) (same_by t)
+same_by (in_not s) = same_by s
+
 terms_agree : (make : Term → Term → Condition) (x y u v : Term) → (same_term x u && same_term y v) ≡ true → Same (make x y) (make u v)
 terms_agree make x y u v e =
     let p = and_parts (same_term x u) (same_term y v) e in
@@ -132,28 +167,6 @@ Same_of (And a b) (And c d) e = let p = and_parts (same_condition a c) (same_con
 Same_of (Or a b) (Or c d) e = let p = and_parts (same_condition a c) (same_condition b d) e in in_or (Same_of a c p.0) (Same_of b d p.1)
 Same_of (Not a) (Not c) e = in_not (Same_of a c e)
 Same_of _ _ e = absurd (cc)
-
-terms_themselves : (x y : Term) → (same_term x x && same_term y y) ≡ true
-terms_themselves x y = and_from _ _ (same_term-refl x) (same_term-refl y)
-
-same_condition-refl : (c : Condition) → same_condition c c ≡ true
-same_condition-refl True = refl
-same_condition-refl False = refl
-same_condition-refl (Eq x y) = or_left _ _ (terms_themselves x y)
-same_condition-refl (Ne x y) = or_left _ _ (terms_themselves x y)
-same_condition-refl (Lt x y) = terms_themselves x y
-same_condition-refl (Le x y) = terms_themselves x y
-same_condition-refl (And a b) = and_from _ _ (same_condition-refl a) (same_condition-refl b)
-same_condition-refl (Or a b) = and_from _ _ (same_condition-refl a) (same_condition-refl b)
-same_condition-refl (Not a) = same_condition-refl a
-
-pub same_by : {c d : Condition} → Same c d → same_condition c d ≡ true
-same_by (equal {c}) = same_condition-refl c
-same_by (equation {x} {y}) = or_right _ _ (terms_themselves x y)
-same_by (inequality {x} {y}) = or_right _ _ (terms_themselves x y)
-same_by (in_and s t) = and_from _ _ (same_by s) (same_by t)
-same_by (in_or s t) = and_from _ _ (same_by s) (same_by t)
-same_by (in_not s) = same_by s
 
 pub same_exactly : (b : Bool) (c d : Condition) → b ≡ same_condition c d → (IsTrue b → Same c d) × (Same c d → IsTrue b)
 same_exactly b c d e = ((λ t. Same_of c d (sym e ∙ t)), λ s. e ∙ same_by s)
