@@ -1,8 +1,9 @@
 //! Gates over flow shards under the precise table, with values worked by hand.
 use flow_graph::FlowShard;
 use gate_core::laws::shipped_tables_serve_gates;
-use gate_core::{Entry, Gate, GateRefuse, ScanScreen, Screen, Told};
+use gate_core::{Entry, Gate, GateRefuse, ScanScreen, Told};
 use gx_base::{Call, Choice, Item, Kind, NoMemory, Reply, Seen, SeqType};
+use kind_tables::laws::tables_below_shipped_ones_are_not_general;
 use std::alloc::Global;
 use std::test::Fail;
 
@@ -40,16 +41,19 @@ fn reply(p: i64) -> Reply {
     }
 }
 
-/// A gate on an empty shard. The plain scan can tell the conflicts of its table.
+/// A gate on an empty shard. The plain scan can tell the conflicts of every table that flow ships.
 fn precise_gate(alloc: Global) -> Result<Gate<FlowShard, ScanScreen>, NoMemory> {
     let table = FlowShard::shipped(alloc, Kind::Flow, Choice::Precise)?;
     shipped_tables_serve_gates::<FlowShard>();
-    let screen = ScanScreen::new();
-    if !<ScanScreen as Screen<FlowShard>>::fits(&screen, Kind::Flow, &table) {
-        return Err(NoMemory);
-    }
+    tables_below_shipped_ones_are_not_general();
     let object = FlowShard::new(alloc);
-    Ok(Gate::new(alloc, object, Kind::Flow, table, screen))
+    Ok(Gate::new(
+        alloc,
+        object,
+        Kind::Flow,
+        table,
+        ScanScreen::new(),
+    ))
 }
 
 /// What is told of a call that replies `would` beside an entry of worker 0 that replied `replied`.

@@ -8,43 +8,9 @@ ghost use Rattle.gx_base.specs.Conditions.{condition_of, Ne as NeCondition};
 use cond_lattice::{join, meet, strengthen};
 use cond_text::{print_cond, read_table};
 use flow_graph::FlowShard;
-use gx_base::{Choice, Cond, Kind, NoMemory, SeqType, Side, Table, Term, method_at};
+use gx_base::{Choice, Cond, Kind, NoMemory, SeqType, Side, Table, Term};
 use std::alloc::Global;
 use std::test::Fail;
-
-/// Whether two conditions are written alike.
-fn are_alike(alloc: Global, a: &Cond, b: &Cond) -> Result<bool, Fail> {
-    let a = format!(in alloc; "{a:?}")?;
-    let b = format!(in alloc; "{b:?}")?;
-    Ok(a.as_str() == b.as_str())
-}
-
-/// How many pairs of flow methods have a simple row that is the precise one strengthened.
-fn rows_alike(alloc: Global) -> Result<u32, Fail> {
-    let precise = FlowShard::shipped(alloc, Kind::Flow, Choice::Precise)?;
-    let simple = FlowShard::shipped(alloc, Kind::Flow, Choice::Simple)?;
-    let mut alike = 0;
-    for i in 0..6u32 {
-        for j in 0..6u32 {
-            if let (Some(first), Some(second)) = (
-                method_at(Kind::Flow, i),
-                method_at(Kind::Flow, j),
-            ) {
-                let wanted = strengthen(alloc, precise.row(first, second))?;
-                if are_alike(alloc, simple.row(first, second), &wanted)? && alike < 36 {
-                    alike += 1;
-                }
-            }
-        }
-    }
-    Ok(alike)
-}
-
-#[test]
-fn simple_flow_rows_are_the_precise_ones_strengthened(rt: HostRuntime) -> Result<(), Fail> {
-    assert_eq!(rt; rows_alike(rt.alloc())?, 36);
-    Ok(())
-}
 
 /// The calls of an object that tell of it, through the bound: the state function, tidying and a table.
 fn told<T: SeqType>(alloc: Global, object: &mut T) -> Result<(i64, Table), NoMemory> {
@@ -61,7 +27,7 @@ fn a_shard_tells_of_itself_through_the_bound(rt: HostRuntime) -> Result<(), Fail
     let mut shard = FlowShard::new(alloc);
     let (seen, table) = told(alloc, &mut shard)?;
     assert_eq!(rt; seen, 0);
-    assert!(rt; are_alike(alloc, table.row(16, 18), &Cond::False)?);
+    assert!(rt; table.row(16, 18).equals(&Cond::False));
     Ok(())
 }
 
@@ -105,31 +71,16 @@ send flow : a1 != a2 or b1 = 0
 send send : true
 ";
 
-/// How many pairs of flow methods have the row that ships in the table of a text.
-fn rows_shipped(alloc: Global, text: &str) -> Result<u32, Fail> {
+/// Whether a text is that of the precise table of flow shards.
+fn is_precise(alloc: Global, text: &str) -> Result<bool, Fail> {
     let shipped = FlowShard::shipped(alloc, Kind::Flow, Choice::Precise)?;
     let (_, table) = read_table(alloc, text.as_bytes(), &[Kind::Flow])?;
-    let mut alike = 0;
-    for i in 0..6u32 {
-        for j in 0..6u32 {
-            if let (Some(first), Some(second)) = (
-                method_at(Kind::Flow, i),
-                method_at(Kind::Flow, j),
-            ) {
-                if are_alike(alloc, table.row(first, second), shipped.row(first, second))?
-                    && alike < 36
-                {
-                    alike += 1;
-                }
-            }
-        }
-    }
-    Ok(alike)
+    Ok(table.equals(&shipped))
 }
 
 #[test]
 fn the_precise_flow_table_is_that_of_its_text(rt: HostRuntime) -> Result<(), Fail> {
-    assert_eq!(rt; rows_shipped(rt.alloc(), FLOW_TEXT)?, 36);
+    assert!(rt; is_precise(rt.alloc(), FLOW_TEXT)?);
     Ok(())
 }
 
