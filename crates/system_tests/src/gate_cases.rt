@@ -47,13 +47,7 @@ fn precise_gate(alloc: Global) -> Result<Gate<FlowShard, ScanScreen>, NoMemory> 
     shipped_tables_serve_gates::<FlowShard>();
     tables_below_shipped_ones_are_not_general();
     let object = FlowShard::new(alloc);
-    Ok(Gate::new(
-        alloc,
-        object,
-        Kind::Flow,
-        table,
-        ScanScreen::new(),
-    ))
+    Ok(Gate::new(alloc, object, Kind::Flow, table, ScanScreen::new()))
 }
 
 /// What is told of a call that replies `would` beside an entry of worker 0 that replied `replied`.
