@@ -1,2 +1,2 @@
-pub mod Fills
-pub mod Writes
+pub mod flow_rows
+pub mod tables

@@ -4,30 +4,36 @@ use Rattle.std.proofs.Common.{sym, subst}
 use Rattle.std.specs.FinMap as map
 use Rattle.gx_base.specs.declared.calls.Made.{Made}
 use Rattle.gx_base.specs.declared.kinds.Kind.{Kind}
-use Rattle.gx_base.specs.declared.kinds.Kind.TheVariants.{Set, Cells, Flow, Points, Domains}
+use Rattle.gx_base.specs.declared.kinds.Kind.TheVariants.{Flow}
 use Rattle.gx_base.proofs.CallerLemmas.{flow_use-foreign}
 use Rattle.gx_base.specs.Kinds.{kind_number}
 use Rattle.gx_base.specs.Methods.{is_method}
-use Rattle.gx_base.specs.ShippedTables.{KindTables, SuitKind}
+use Rattle.gx_base.specs.ShippedTables.{SuitKind}
 use Rattle.gx_base.specs.States.{State}
 use Rattle.gx_base.specs.RegisterDeeds.{Use, Nothing, On, Reads, Adds, Sets}
 use Rattle.gx_base.specs.FlowKind.{flow_use}
 use Rattle.gx_base.specs.Steps.{IsState}
-use Rattle.kind_tables.specs.FlowTables.{flow_tables}
+use Rattle.kind_tables.specs.TablesOfKinds.{tables_of}
 use Rattle.kind_tables.proofs.CallerLemmas.{tables_of-SuitKind}
-use Rattle.number_rows.specs.NumberRows.{rows_of, number-fits, IsLean}
+use Rattle.number_rows.specs.declared.rows.NumberRows.{NumberRows}
+use Rattle.number_rows.specs.NumberRows.{rows_of, IsLean}
+use Rattle.number_rows.proofs.CallerLemmas.{number-fits}
 use Rattle.flow_graph.specs.declared.shard.FlowShard.{FlowShard}
 use Rattle.flow_graph.specs.FlowRows.{Numbers, flow_rows, flow_rows-HoldNumbers}
 
 -- the state of a shard
 abbrev pub state_of : FlowShard → State
-state_of shard = record { kind = 2; rows = flow_rows (rows_of shard.heights) (rows_of shard.excesses) (rows_of shard.flows) }
+state_of shard = record { kind = kind_number Flow; rows = flow_rows (rows_of shard.heights) (rows_of shard.excesses) (rows_of shard.flows) }
+
+-- the numbers of a sort
+abbrev pub sorted : FlowShard → ℕ → NumberRows
+sorted shard zero = shard.heights
+sorted shard (suc zero) = shard.excesses
+sorted shard (suc (suc n)) = shard.flows
 
 -- the rows of a sort that are there
 abbrev pub numbers_of : FlowShard → ℕ → Numbers
-numbers_of shard zero = rows_of shard.heights
-numbers_of shard (suc zero) = rows_of shard.excesses
-numbers_of shard (suc (suc n)) = rows_of shard.flows
+numbers_of shard sort = rows_of (sorted shard sort)
 
 abbrev pub has_row_in : FlowShard → ℕ → ℤ → Bool
 has_row_in shard sort k = map.contains_key (numbers_of shard sort) k
@@ -50,16 +56,11 @@ abbrev pub holds_flow : Kind → Bool
 holds_flow Flow = true
 holds_flow _ = false
 
--- what a shard ships for flow, the one kind that it holds
-abbrev pub tables_held : Kind → KindTables
-tables_held kind = flow_tables
+-- What follows is what the object says of every value and kind. It stands here since that takes nothing from this
+-- crate's proofs.
 
-pub tables_held-SuitKind : (kind : Kind) → IsTrue (holds_flow kind) → SuitKind (kind_number kind) (tables_held kind)
-tables_held-SuitKind Set h = absurd (cc)
-tables_held-SuitKind Cells h = absurd (cc)
-tables_held-SuitKind Flow h = tables_of-SuitKind Flow
-tables_held-SuitKind Points h = absurd (cc)
-tables_held-SuitKind Domains h = absurd (cc)
+pub held-SuitKind : (kind : Kind) → IsTrue (holds_flow kind) → SuitKind (kind_number kind) (tables_of kind)
+held-SuitKind kind held = tables_of-SuitKind kind
 
 pub foreign-has_room_in : (shard : FlowShard) (made : Made) → is_method (state_of shard).kind made.call.method ≡ false → IsTrue (has_room_in shard made)
 foreign-has_room_in shard made foreign = subst (λ u. IsTrue (room_for u shard made.call.a)) (sym (flow_use-foreign made.call.method foreign)) refl

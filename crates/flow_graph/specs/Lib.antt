@@ -1,4 +1,3 @@
 pub mod Uses
 pub mod FlowRows
 pub mod FlowState
-pub mod Filling

@@ -9,6 +9,7 @@ mod shipping;
 mod uses;
 
 pub use shard::FlowShard;
+pub use uses::{EXCESS, FLOW, GAIN, HEIGHT, RELABEL, SEND};
 
 #[cfg(test)]
 mod tests;

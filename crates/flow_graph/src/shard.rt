@@ -1,10 +1,15 @@
-ghost use Rattle.std.specs.Prelude.{◌≡◌, IsTrue, IsOk, OnOk, OnErr};
+ghost use Rattle.std.specs.Prelude.{◌≡◌, ℕ, IsTrue, IsOk, IfOk, OnOk, OnErr};
 ghost use Rattle.std.specs.FinMap as map;
 ghost use Rattle.gx_base.specs.declared.calls.Made.{Made};
+ghost use Rattle.gx_base.specs.declared.kinds.Kind.TheVariants.{Flow};
+ghost use Rattle.gx_base.specs.Kinds.{kind_number};
+ghost use Rattle.gx_base.specs.ShippedTables.{IsShipped};
 ghost use Rattle.gx_base.specs.States.{number_at, with_number};
 ghost use Rattle.gx_base.specs.Meanings.{number_reply as reply_of};
+ghost use Rattle.kind_tables.specs.TablesOfKinds.{tables_of};
+ghost use Rattle.number_rows.specs.NumberRows.{IsLean, dead_rows};
 ghost use Rattle.flow_graph.specs.Uses.{sort_of};
-ghost use Rattle.flow_graph.specs.FlowState.{state_of, has_row_in, has_room_in, IsLeanShard};
+ghost use Rattle.flow_graph.specs.FlowState.{state_of, sorted, has_row_in, has_room_in, IsLeanShard};
 
 use crate::shipping::flow_table;
 use crate::uses::{Deed, Quantity, use_of};
@@ -23,7 +28,7 @@ pub struct FlowShard {
 impl FlowShard {
     /// A shard in which each number is 0.
     pub fn new(alloc: Global) -> FlowShard
-        ensures { state_of result ≡ record { kind = 2; rows = map.empty } }
+        ensures { state_of result ≡ record { kind = kind_number Flow; rows = map.empty } }
     {
         FlowShard {
             heights: NumberRows::new(alloc),
@@ -112,7 +117,7 @@ fn number_reply(number: i64) -> Reply
 
 #[tactic(auto, unfolding(gx_base::specs::Steps::next_state, gx_base::specs::Steps::reply_to, gx_base::specs::Steps::inverse, gx_base::specs::Steps::observed))]
 impl SeqType for FlowShard {
-    ghost use Rattle.flow_graph.specs.FlowState.{holds_flow, tables_held, tables_held-SuitKind, foreign-has_room_in, state_of-IsState};
+    ghost use Rattle.flow_graph.specs.FlowState.{holds_flow, held-SuitKind, foreign-has_room_in, state_of-IsState};
 
     ghost state = { state_of };
 
@@ -120,13 +125,13 @@ impl SeqType for FlowShard {
 
     ghost holds_kind = { holds_flow };
 
-    ghost tables = { tables_held };
+    ghost tables = { tables_of };
 
     ghost known = { state_of-IsState };
 
     ghost foreign_roomed = { foreign-has_room_in };
 
-    ghost tables_suit = { tables_held-SuitKind };
+    ghost tables_suit = { held-SuitKind };
 
     fn apply(&mut self, call: Call) -> Result<Reply, NoMemory> {
         match use_of(call.method) {
@@ -184,12 +189,13 @@ impl SeqType for FlowShard {
         0
     }
 
-    // Never fails, and keeps every room where each table is lean already.
+    // Never fails, and does nothing at all where each table is lean already.
     fn tidy(&mut self) -> Result<(), NoMemory>
         ensures state { state_of self.new ≡ state_of self.old }
         ensures succeeds { IsOk result }
         ensures lean { IsLeanShard self.new }
-        ensures idle { IsLeanShard self.old → (made : Made) → has_room_in self.new made ≡ has_room_in self.old made }
+        ensures dropped { (sort : ℕ) → ¬ (IsLean (sorted self.old sort)) → dead_rows (sorted self.new sort) ≡ 0 }
+        ensures idle { IsLeanShard self.old → self.new ≡ self.old }
     {
         self.heights.tidy();
         self.excesses.tidy();
@@ -197,7 +203,9 @@ impl SeqType for FlowShard {
         Ok(())
     }
 
-    fn shipped(alloc: Global, kind: Kind, choice: Choice) -> Result<Table, NoMemory> {
+    fn shipped(alloc: Global, kind: Kind, choice: Choice) -> Result<Table, NoMemory>
+        ensures { IfOk result (IsShipped (holds_flow kind) (tables_of kind) choice) }
+    {
         match kind {
             Kind::Flow => flow_table(alloc, choice),
             _ => Ok(Table::blank(alloc)),

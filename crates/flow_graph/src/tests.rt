@@ -3,21 +3,9 @@
 ghost use Rattle.std.specs.Prelude.{◌≡◌, IfOk, OnOk};
 ghost use Rattle.gx_base.specs.Steps.{next_state, reply_to};
 
-use crate::FlowShard;
+use crate::{EXCESS, FLOW, FlowShard, GAIN, HEIGHT, RELABEL, SEND};
 use gx_base::{Call, Choice, Kind, Made, NoMemory, Reply, Seen, SeqType, Table, eval};
 use std::test::Fail;
-
-const HEIGHT: u32 = 16;
-
-const RELABEL: u32 = 17;
-
-const EXCESS: u32 = 18;
-
-const GAIN: u32 = 19;
-
-const FLOW: u32 = 20;
-
-const SEND: u32 = 21;
 
 fn call(method: u32, a: i64, b: i64) -> Call {
     Call {

@@ -3,22 +3,28 @@ ghost use Rattle.std.specs.Prelude.{◌≡◌};
 ghost use Rattle.gx_base.specs.FlowKind.{flow_use};
 ghost use Rattle.flow_graph.specs.Uses.{sort_of, use_from};
 
+/// Reads the height of a node.
+pub const HEIGHT: u32 = 16;
+
+/// Sets the height of a node.
+pub const RELABEL: u32 = 17;
+
+/// Reads the excess of a node.
+pub const EXCESS: u32 = 18;
+
+/// Adds to the excess of a node.
+pub const GAIN: u32 = 19;
+
+/// Reads the flow of an arc.
+pub const FLOW: u32 = 20;
+
+/// Adds to the flow of an arc.
+pub const SEND: u32 = 21;
+
 /// The first method of flow shards, and what follows the last.
 pub(crate) const FIRST_METHOD: u32 = HEIGHT;
 
 pub(crate) const METHODS_END: u32 = SEND + 1;
-
-const HEIGHT: u32 = 16;
-
-const RELABEL: u32 = 17;
-
-const EXCESS: u32 = 18;
-
-const GAIN: u32 = 19;
-
-const FLOW: u32 = 20;
-
-const SEND: u32 = 21;
 
 /// The numbers of a flow shard.
 #[derive(Clone, Copy, Drop)]

@@ -1,1 +1,3 @@
--- Lemmas.
+pub mod entries
+pub mod state_rows
+pub mod CallerLemmas

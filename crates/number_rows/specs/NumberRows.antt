@@ -1,13 +1,10 @@
 -- What a `NumberRows` stands for.
-use Rattle.std.specs.Prelude.{ℕ, ◌*◌, ◌≤◌, ℤ, length, FitsSigned}
-use Rattle.std.specs.Int.{w64}
+use Rattle.std.specs.Prelude.{ℕ, ◌*◌, ◌≤◌, ℤ, length}
 use Rattle.std.specs.Ordering.{int_cmp}
 use Rattle.std.specs.FinMap as map
 use Rattle.number_rows.specs.declared.rows.NumberRows.{NumberRows}
 use Rattle.number_rows.specs.declared.rows.TheConstants.{LEAST_TIDIED}
 use Rattle.number_rows.specs.Entries.{dead_in}
-use Rattle.number_rows.specs.EntryLaws.{FitAll-number_in}
-use Rattle.number_rows.specs.Rows.{number_in}
 
 -- the keys that have rows, with their numbers
 abbrev pub rows_of : NumberRows → map.FinMap int_cmp ℤ
@@ -23,7 +20,3 @@ row_count rows = length rows.numbers.entries
 -- the rows are fewer than `LEAST_TIDIED`, or at most half of them hold 0
 abbrev pub IsLean : NumberRows → Type 0
 IsLean rows = LEAST_TIDIED ≤ row_count rows → 2 * dead_rows rows ≤ row_count rows
-
--- each number is one of 64 bits
-pub number-fits : (rows : NumberRows) (k : ℤ) → FitsSigned w64 (number_in (rows_of rows) k)
-number-fits rows k = FitAll-number_in rows.numbers.entries rows.fit k

@@ -21,6 +21,9 @@ pub struct NumberRows {
 
 impl NumberRows {
     ghost use Rattle.std.specs.FinMap as map;
+    ghost use Rattle.std.specs.List.{IsDistinct};
+    ghost use Rattle.std.specs.Map.{keys_of};
+    ghost use Rattle.std.specs.Ordering.{int_eq};
     ghost use Rattle.number_rows.specs.Rows.{number_in};
     ghost use Rattle.number_rows.specs.NumberRows.{rows_of, dead_rows, IsLean};
 
@@ -74,17 +77,27 @@ impl NumberRows {
     }
 
     /// Drops the dead rows where they are more than half of all rows, and these are `LEAST_TIDIED` at least.
-    /// Else does nothing, at no cost that grows with the rows.
+    /// Else does nothing at all, and keeps the room that its table has to spare.
     pub fn tidy(&mut self)
         ensures numbers { (key : ℤ) → number_in (rows_of self.new) key ≡ number_in (rows_of self.old) key }
         ensures lean { IsLean self.new }
         ensures dropped { ¬ (IsLean self.old) → dead_rows self.new ≡ 0 }
-        ensures idle { IsLean self.old → rows_of self.new ≡ rows_of self.old }
+        ensures idle { IsLean self.old → self.new ≡ self.old }
     {
         let rows = self.numbers.len();
         if rows < LEAST_TIDIED || self.dead <= rows / 2 {
             return;
         }
+        self.drop_dead_rows();
+    }
+
+    // Drops each dead row, and gives back the room that is spare then. Each key has one row, as the length of
+    // the map says.
+    fn drop_dead_rows(&mut self)
+        requires { IsDistinct int_eq (keys_of self.old.numbers.entries) }
+        ensures numbers { (key : ℤ) → number_in (rows_of self.new) key ≡ number_in (rows_of self.old) key }
+        ensures dropped { dead_rows self.new ≡ 0 }
+    {
         self.numbers.retain(
             |_key: &i64, number: &mut i64| -> bool
                 ensures { (result ≡ not (is_zero number.old)) × (number.new ≡ number.old) }

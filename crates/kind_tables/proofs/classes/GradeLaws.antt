@@ -1,19 +1,22 @@
 -- Which shipped rows, and which shipped tables, are GENERAL.
 use Rattle.std.specs.Prelude.{◌≡◌, ◌≢◌, refl}
-use Rattle.std.proofs.Common.{◌∙◌, ap}
+use Rattle.std.proofs.Common.{◌∙◌, ap, sym, true}
 use Rattle.gx_base.specs.declared.conditions.Side.TheVariants.{Second}
 use Rattle.gx_base.specs.declared.kinds.Choice.{Choice}
 use Rattle.gx_base.specs.declared.kinds.Choice.TheVariants.{Precise, Simple, Rw, Global}
 use Rattle.gx_base.specs.declared.kinds.Kind.{Kind}
 use Rattle.gx_base.specs.declared.kinds.Kind.TheVariants.{Domains}
 use Rattle.gx_base.specs.Kinds.{kind_number}
+use Rattle.gx_base.specs.Below.{AreBelow}
+use Rattle.gx_base.specs.ShippedTables.{IsShipped}
+use Rattle.gx_base.specs.TableRows.{RowMap, row_of}
 use Rattle.gx_base.specs.Tables.{Rows}
 use Rattle.cond_lattice.specs.declared.grades.Grade.TheVariants.{General}
-use Rattle.cond_lattice.specs.Grades.{is_simple, table_grade, IsGreatestClass}
+use Rattle.cond_lattice.specs.Grades.{grade_of, is_simple, table_grade, IsGreatestClass}
 use Rattle.cond_lattice.specs.Simple.{strengthened}
 use Rattle.cond_lattice.proofs.CallerLemmas.{simple_nameless, nameless_grade, row-below-not-general, table_grade-greatest, strengthened-simple}
 use Rattle.kind_tables.specs.Classes.{HasNoGeneralRow}
-use Rattle.kind_tables.specs.TablesOfKinds.{shipped_rows}
+use Rattle.kind_tables.specs.TablesOfKinds.{tables_of, shipped_rows}
 use Rattle.kind_tables.proofs.kinds.AllKinds.{facts_of, precise-silent}
 
 -- the class of a table without GENERAL rows isn't General
@@ -33,3 +36,11 @@ shipped-HasNoGeneralRow kind Precise n = λ first second. nameless_grade (shippe
 shipped-HasNoGeneralRow kind Simple n = simple-none kind
 shipped-HasNoGeneralRow kind Rw n = λ first second. row-below-not-general (shipped_rows kind Rw) (shipped_rows kind Simple) (facts_of kind).readers_below first second (simple-none kind first second)
 shipped-HasNoGeneralRow kind Global n = λ first second e. absurd (cc)
+
+-- a table with the rows of such a shipped table has no GENERAL row
+pub shipped-table-none : (kind : Kind) (choice : Choice) (table : RowMap) → (kind ≡ Domains → choice ≢ Precise) → IsShipped true (tables_of kind) choice table → HasNoGeneralRow (row_of table)
+shipped-table-none kind choice table n is first second e = shipped-HasNoGeneralRow kind choice n first second (ap grade_of (sym (is first second)) ∙ e)
+
+-- nor has one with rows below those of a table that has none
+pub below-none : (kind : Kind) (upper lower : Rows) → HasNoGeneralRow upper → AreBelow lower upper → table_grade (kind_number kind) lower ≢ General
+below-none kind upper lower none below = class-none kind lower (λ first second. row-below-not-general lower upper below first second (none first second))

@@ -1,6 +1,6 @@
 -- Keys of points, and what the nearest point is.
-use Rattle.std.specs.Prelude.{◌≡◌, ℕ, ℤ, ◌+◌, ◌-ℤ◌, ◌*◌, Bool, true, false, not, cond, ◌&&◌, ◌==◌, if◌then◌else◌, int_lt, min, unsigned_abs, Option, Some, None, List, [], ◌∷◌, is_some, refl, ◌⊎◌}
-use Rattle.std.proofs.Common.{sym, ◌∙◌, ap, subst, arith, inl, inr}
+use Rattle.std.specs.Prelude.{◌≡◌, ℕ, ℤ, Bool, true, false, not, cond, ◌&&◌, ◌==◌, if◌then◌else◌, int_lt, Option, Some, None, List, [], ◌∷◌, is_some, refl, ◌⊎◌}
+use Rattle.std.proofs.Common.{sym, ◌∙◌, ap, subst, inl, inr}
 use Rattle.std.specs.declared.cmp.Ordering.{Ordering}
 use Rattle.std.specs.declared.cmp.Ordering.TheVariants.{Less, Equal, Greater}
 use Rattle.std.specs.Ordering.{nat_cmp, int_cmp, int_eq, ordering_then, ordering_reverse, eq_by_cmp, is_gt}
@@ -12,29 +12,12 @@ use Rattle.gx_base.specs.declared.calls.Spot.{Spot}
 use Rattle.gx_base.specs.States.{State, row_cmp, row_at, with_row}
 use Rattle.gx_base.proofs.CallerLemmas.{both_equal, same_row, same_row-is, same_row-sort, row_at-with}
 use Rattle.kind_tables.proofs.swapping.Effects.{same_int, either, both, not_true, false_of}
-use Rattle.gx_base.specs.Spots.{Key, pk, key_cmp, beyond, distance, square, far}
+use Rattle.gx_base.specs.Spots.{Key, pk, key_cmp, beyond, distance}
 use Rattle.gx_base.specs.PointKind.{spot_of, spot_at, nearer, other_at, nearest_of, nearest}
 
 -- keys are in a total order
 pub key_cmp_total : IsTotalOrder key_cmp
 key_cmp_total = then_total (on_total (λ (k : Key). k.0) nat_cmp_total) (then_total (on_total (λ (k : Key). k.1) int_cmp_total) (on_total (λ (k : Key). k.2) int_cmp_total))
-
-square-comm : (x y : ℤ) → square x y ≡ square y x
-square-comm x y = let e : unsigned_abs (x -ℤ y) ≡ unsigned_abs (y -ℤ x) = grind arith in ap (λ n. n * n) e
-
-int_min-comm : (x y : ℤ) → int_min x y ≡ int_min y x
-int_min-comm x y = grind arith
-
-int_max-comm : (x y : ℤ) → int_max x y ≡ int_max y x
-int_max-comm x y = grind arith
-
--- they are symmetric
-pub pk-comm : (p q : Spot) → pk p q ≡ pk q p
-unfolding pk
-pk-comm p q =
-    let x : square p.x q.x ≡ square q.x p.x = square-comm p.x q.x in
-    let y : square p.y q.y ≡ square q.y p.y = square-comm p.y q.y in
-    λ i. (min (x i + y i) far, int_min-comm p.id q.id i, int_max-comm p.id q.id i)
 
 same_other : (b c : Bool) (x y z : ℤ) → cond b y x ≡ cond c z x → cond b x y ≡ cond c x z → y ≡ z
 same_other true true x y z e f = e

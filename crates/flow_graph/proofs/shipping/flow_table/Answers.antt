@@ -4,8 +4,7 @@ use Rattle.gx_base.specs.TableRows.{row_of}
 use Rattle.gx_base.specs.declared.kinds.Kind.TheVariants.{Flow}
 use Rattle.kind_tables.proofs.CallerLemmas.{tables_of-SuitKind}
 use Rattle.kind_tables.specs.FlowTables.{flow_tables}
-use Rattle.flow_graph.specs.Filling.{filled_to}
-use Rattle.flow_graph.proofs.Fills.{filled-none, filled-more, filled-row, filled-all}
+use Rattle.flow_graph.proofs.tables.Fills.{filled_to, filled-none, filled-more, filled-row, filled-all}
 use Rattle.flow_graph.proofs.shipping.flow_table.Goals as goal
 
 pub loop-first-init : goal.loop-first-init

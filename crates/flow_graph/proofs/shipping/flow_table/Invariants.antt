@@ -2,7 +2,7 @@ use Rattle.std.proofs.Common.{◌≡◌, ℕ}
 use Rattle.gx_base.specs.ShippedTables.{rows_chosen}
 use Rattle.gx_base.specs.TableRows.{row_of}
 use Rattle.kind_tables.specs.FlowTables.{flow_tables}
-use Rattle.flow_graph.specs.Filling.{filled_to}
+use Rattle.flow_graph.proofs.tables.Fills.{filled_to}
 use Rattle.flow_graph.proofs.shipping.flow_table.Given as goal
 
 abbrev pub invariant-loop-first : goal.invariant-loop-first

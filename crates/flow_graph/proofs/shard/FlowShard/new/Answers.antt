@@ -1,8 +1,9 @@
 use Rattle.std.proofs.Common.{ap, ◌∙◌}
 use Rattle.std.specs.FinMap as map
 use Rattle.number_rows.specs.NumberRows.{rows_of}
-use Rattle.flow_graph.specs.FlowRows.{flow_rows, flow_rows-empty}
-use Rattle.flow_graph.proofs.Writes.{with_rows}
+use Rattle.flow_graph.specs.FlowRows.{flow_rows}
+use Rattle.flow_graph.proofs.flow_rows.RowLaws.{flow_rows-empty}
+use Rattle.flow_graph.proofs.flow_rows.Writes.{with_rows}
 use Rattle.flow_graph.proofs.shard.FlowShard.new.Goals as goal
 
 pub returns : goal.returns

@@ -1,7 +1,7 @@
 use Rattle.std.proofs.Common.{w64, rules, FitsSigned}
 use Rattle.std.proofs.lemmas.Int.{to_z-of_z}
 use Rattle.number_rows.specs.NumberRows.{rows_of}
-use Rattle.flow_graph.proofs.Writes.{read_height, read_excess, read_flow}
+use Rattle.flow_graph.proofs.flow_rows.Writes.{read_height, read_excess, read_flow}
 use Rattle.flow_graph.proofs.shard.FlowShard.value.Goals as goal
 
 pub returns-in-Height : goal.returns-in-Height

@@ -1,6 +1,6 @@
 use Rattle.std.proofs.Common.{◌∙◌, to_z, of_z, w64}
 use Rattle.std.proofs.lemmas.Int.{to_z-of_z}
-use Rattle.number_rows.specs.EntryLaws.{there}
+use Rattle.number_rows.proofs.entries.Lookups.{there}
 use Rattle.number_rows.proofs.rows.NumberRows.has_row.Goals as goal
 
 pub returns : goal.returns

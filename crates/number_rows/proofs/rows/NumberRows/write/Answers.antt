@@ -1,6 +1,7 @@
 use Rattle.std.proofs.Common.{to_z, of_z, w64, arith, ap, is_some}
 use Rattle.std.proofs.lemmas.Int.{to_z-of_z}
-use Rattle.number_rows.specs.EntryLaws.{from_entries-update_at, dead_after, there}
+use Rattle.number_rows.proofs.entries.Lookups.{from_entries-update_at, there}
+use Rattle.number_rows.proofs.entries.DeadRows.{dead_after}
 use Rattle.number_rows.proofs.rows.NumberRows.write.Goals as goal
 
 pub returns-clause-ok : goal.returns-clause-ok

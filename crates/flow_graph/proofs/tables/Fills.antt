@@ -1,5 +1,5 @@
 -- How a table is filled row by row.
-use Rattle.std.proofs.Common.{◌≡◌, ℕ, ◌+◌, ◌<◌, ◌≤◌, Bool, true, false, ◌||◌, ◌&&◌, ◌==◌, if◌then◌else◌, sym, ◌∙◌, ap, refl, arith}
+use Rattle.std.proofs.Common.{◌≡◌, ℕ, ◌+◌, ◌<◌, ◌≤◌, Bool, true, false, ◌||◌, ◌&&◌, ◌==◌, nat_lt, nat_le, if◌then◌else◌, sym, ◌∙◌, ap, refl, arith}
 use Rattle.std.proofs.lemmas.Bool.Decides.{nat_tests}
 use Rattle.std.specs.FinMap as map
 use Rattle.gx_base.specs.Conditions.{Condition, False}
@@ -7,7 +7,14 @@ use Rattle.gx_base.proofs.CallerLemmas.{row_of-empty, row_of-insert}
 use Rattle.gx_base.specs.Methods.{is_method}
 use Rattle.gx_base.specs.Tables.{Rows, KeepsToKind}
 use Rattle.gx_base.specs.TableRows.{RowMap, row_of}
-use Rattle.flow_graph.specs.Filling.{is_put, filled_to}
+
+-- the row was put before that of first and second
+abbrev pub is_put : ℕ → ℕ → ℕ → ℕ → Bool
+is_put first second m n = (nat_le 16 m && nat_le 16 n && nat_lt n 22) && (nat_lt m first || ((m == first) && nat_lt n second))
+
+-- the rows that were put, where the others are false
+abbrev pub filled_to : Rows → ℕ → ℕ → Rows
+filled_to rows first second m n = if is_put first second m n then rows m n else False
 
 none_put : (m n : ℕ) → is_put 16 16 m n ≡ false
 none_put m n = grind (arith, nat_tests)

@@ -1,9 +1,9 @@
--- Laws of the rows of a state that numbers by key are.
-use Rattle.std.specs.Prelude.{◌≡◌, ℕ, ℤ, pos, Bool, true, false, cond, List, [], ◌∷◌, Option, Some, None, Result, Ok, Err, OnOk, OnErr, IsTrue, is_some, unwrap_or, refl, FitsSigned, ◌==◌}
+-- The rows of a state that numbers by key are.
+use Rattle.std.specs.Prelude.{◌≡◌, ℕ, ℤ, pos, Bool, true, false, cond, List, [], ◌∷◌, Option, Some, None, unwrap_or, refl, FitsSigned, ◌==◌}
 use Rattle.std.specs.Int.{w64}
 use Rattle.std.proofs.Common.{sym, ◌∙◌, ap, subst}
 use Rattle.std.specs.Ordering.{int_cmp, int_eq}
-use Rattle.std.specs.Cmp.{int_cmp_total, int_eq_equiv, unsigned_Decides, signed_Decides}
+use Rattle.std.specs.Cmp.{int_cmp_total, unsigned_Decides, signed_Decides}
 use Rattle.std.specs.FinMap as map
 use Rattle.gx_base.specs.States.{row_cmp, rows_with, first_or_zero, IsNumberRow}
 use Rattle.gx_base.proofs.CallerLemmas.{row_cmp_total, row_cmp-IsAntisymmetric, get-rows_with, same_row, same_row-is, same_row-sort, row_for, row_for-IsNumberRow}
@@ -146,18 +146,3 @@ rows_onto-same base sort m n free h = by_sorts base sort m (rows_onto base sort 
 pub rows_onto-empty : (base : map.FinMap row_cmp (List ℤ)) (sort : ℕ) → rows_onto base sort map.empty ≡ base
 rows_onto-empty base sort = by_sorts base sort map.empty base (λ k. sym (ap (row_or (map.get base (sort, k))) (map.get-empty int_cmp k))) (λ i k n. refl)
 
--- the key that is written has a row, and a row that is there stays
-pub contains_key-insert : (m : map.FinMap int_cmp ℤ) (k x q : ℤ) → IsTrue (map.contains_key m q) → IsTrue (map.contains_key (map.insert m k x) q)
-contains_key-insert m k x q h = subst (λ o. IsTrue (is_some o)) (sym (map.get-insert int_cmp_total m k x q)) (some_by (int_eq q k) (map.get m q) h)
-  where
-    some_by : (b : Bool) (o : Option ℤ) → IsTrue (is_some o) → IsTrue (is_some (cond b (Some x) o))
-    some_by true o h = refl
-    some_by false o h = h
-
-pub contains_key-inserted : (m : map.FinMap int_cmp ℤ) (k x : ℤ) → IsTrue (map.contains_key (map.insert m k x) k)
-contains_key-inserted m k x = subst (λ o. IsTrue (is_some o)) (sym (map.get-insert int_cmp_total m k x k ∙ ap (λ b. cond b (Some x) (map.get m k)) (int_eq_equiv.refl k))) refl
-
--- whether or not a write was refused, each row stays
-pub kept_after_write : {T E : Type 0} (r : Result T E) (m n : map.FinMap int_cmp ℤ) (k x : ℤ) → OnOk r (n ≡ map.insert m k x) → OnErr r (n ≡ m) → (q : ℤ) → IsTrue (map.contains_key m q) → IsTrue (map.contains_key n q)
-kept_after_write (Ok t) m n k x ok err q h = subst (λ l. IsTrue (map.contains_key l q)) (sym ok) (contains_key-insert m k x q h)
-kept_after_write (Err e) m n k x ok err q h = subst (λ l. IsTrue (map.contains_key l q)) (sym err) h

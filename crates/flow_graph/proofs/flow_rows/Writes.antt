@@ -2,22 +2,25 @@
 use Rattle.std.proofs.Common.{◌≡◌, ℕ, zero, suc, ℤ, List, refl, sym, ◌∙◌, ap, subst, IsTrue}
 use Rattle.std.specs.FinMap as map
 use Rattle.gx_base.specs.declared.calls.Made.{Made}
+use Rattle.gx_base.specs.declared.kinds.Kind.TheVariants.{Flow as flow}
+use Rattle.gx_base.specs.Kinds.{kind_number}
 use Rattle.gx_base.specs.States.{State, row_cmp, rows_with, number_at, with_number}
 use Rattle.gx_base.specs.RegisterDeeds.{Use, Nothing, On, Reads, Adds, Sets}
 use Rattle.gx_base.specs.FlowKind.{flow_use}
 use Rattle.number_rows.specs.declared.rows.NumberRows.{NumberRows}
 use Rattle.number_rows.specs.Rows.{number_in}
 use Rattle.number_rows.specs.NumberRows.{rows_of}
-use Rattle.number_rows.specs.RowLaws.{contains_key-insert, contains_key-inserted}
+use Rattle.number_rows.proofs.CallerLemmas.{contains_key-insert, contains_key-inserted}
 use Rattle.flow_graph.specs.declared.shard.FlowShard.{FlowShard}
 use Rattle.flow_graph.specs.declared.uses.Quantity.{Quantity}
 use Rattle.flow_graph.specs.declared.uses.Quantity.TheVariants.{Height, Excess, Flow}
 use Rattle.flow_graph.specs.Uses.{sort_of}
-use Rattle.flow_graph.specs.FlowRows.{Numbers, flow_rows, flow_rows-height, flow_rows-excess, flow_rows-flow, number-heights, number-excesses, number-flows}
+use Rattle.flow_graph.specs.FlowRows.{Numbers, flow_rows}
+use Rattle.flow_graph.proofs.flow_rows.RowLaws.{flow_rows-height, flow_rows-excess, flow_rows-flow, number-heights, number-excesses, number-flows}
 use Rattle.flow_graph.specs.FlowState.{numbers_of, has_row_in, room_for, has_room_in}
 
 abbrev pub with_rows : map.FinMap row_cmp (List ℤ) → State
-with_rows rows = record { kind = 2; rows = rows }
+with_rows rows = record { kind = kind_number flow; rows = rows }
 
 -- a number that is read
 pub read_height : (h e f : Numbers) (q : Quantity) (k kk x y : ℤ) → q ≡ Height → kk ≡ k → y ≡ x → x ≡ number_in h kk → y ≡ number_at (with_rows (flow_rows h e f)) (sort_of q, k)
@@ -47,58 +50,3 @@ pub wrote_flow : (h e f n : Numbers) (q : Quantity) (k kk x xx : ℤ) → q ≡ 
 wrote_flow h e f n q k kk x xx is ek ex w =
     ap (λ m. with_rows (flow_rows h e m)) (put_at f n k kk x xx ek ex w)
     ∙ ap with_rows (flow_rows-flow h e f k x ∙ ap (λ s. rows_with (flow_rows h e f) (s, k) x) (sym (ap sort_of is)))
-
-pub wrote_there : (m n : Numbers) (k kk x : ℤ) → kk ≡ k → n ≡ map.insert m kk x → IsTrue (map.contains_key n k)
-wrote_there m n k kk x e w = subst (λ l. IsTrue (map.contains_key l k)) (sym (w ∙ ap (λ z. map.insert m z x) e)) (contains_key-inserted m k x)
-
-pub rewrote_kept : (m n : Numbers) (k x : ℤ) → n ≡ map.insert m k x → (q : ℤ) → IsTrue (map.contains_key m q) → IsTrue (map.contains_key n q)
-rewrote_kept m n k x w q h = subst (λ l. IsTrue (map.contains_key l q)) (sym w) (contains_key-insert m k x q h)
-
-room-kept : (u : Use) (s t : FlowShard) (k : ℤ) → ((sort : ℕ) (q : ℤ) → IsTrue (has_row_in s sort q) → IsTrue (has_row_in t sort q)) → IsTrue (room_for u s k) → IsTrue (room_for u t k)
-room-kept Nothing s t k h r = r
-room-kept (On sort Reads) s t k h r = r
-room-kept (On sort Adds) s t k h r = h sort k r
-room-kept (On sort Sets) s t k h r = h sort k r
-
--- where the rows stay, each call keeps its room
-abbrev pub KeepsRows : NumberRows → NumberRows → Type 0
-KeepsRows old new = (q : ℤ) → IsTrue (map.contains_key (rows_of old) q) → IsTrue (map.contains_key (rows_of new) q)
-
-pub heights_kept : (s : FlowShard) (n : NumberRows) → KeepsRows s.heights n → (made : Made) → IsTrue (has_room_in s made) → IsTrue (has_room_in (record s { heights = n }) made)
-heights_kept s n h made r = room-kept (flow_use made.call.method) s (record s { heights = n }) made.call.a kept r
-  where
-    kept : (sort : ℕ) (q : ℤ) → IsTrue (has_row_in s sort q) → IsTrue (has_row_in (record s { heights = n }) sort q)
-    kept zero q t = h q t
-    kept (suc zero) q t = t
-    kept (suc (suc i)) q t = t
-
-pub excesses_kept : (s : FlowShard) (n : NumberRows) → KeepsRows s.excesses n → (made : Made) → IsTrue (has_room_in s made) → IsTrue (has_room_in (record s { excesses = n }) made)
-excesses_kept s n h made r = room-kept (flow_use made.call.method) s (record s { excesses = n }) made.call.a kept r
-  where
-    kept : (sort : ℕ) (q : ℤ) → IsTrue (has_row_in s sort q) → IsTrue (has_row_in (record s { excesses = n }) sort q)
-    kept zero q t = t
-    kept (suc zero) q t = h q t
-    kept (suc (suc i)) q t = t
-
-pub flows_kept : (s : FlowShard) (n : NumberRows) → KeepsRows s.flows n → (made : Made) → IsTrue (has_room_in s made) → IsTrue (has_room_in (record s { flows = n }) made)
-flows_kept s n h made r = room-kept (flow_use made.call.method) s (record s { flows = n }) made.call.a kept r
-  where
-    kept : (sort : ℕ) (q : ℤ) → IsTrue (has_row_in s sort q) → IsTrue (has_row_in (record s { flows = n }) sort q)
-    kept zero q t = t
-    kept (suc zero) q t = t
-    kept (suc (suc i)) q t = h q t
-
-room-same : (u : Use) (s t : FlowShard) (k : ℤ) → ((sort : ℕ) → numbers_of t sort ≡ numbers_of s sort) → room_for u t k ≡ room_for u s k
-room-same Nothing s t k h = refl
-room-same (On sort Reads) s t k h = refl
-room-same (On sort Adds) s t k h = ap (λ m. map.contains_key m k) (h sort)
-room-same (On sort Sets) s t k h = ap (λ m. map.contains_key m k) (h sort)
-
--- the same rows are the same rooms
-pub rooms_same : (s t : FlowShard) → rows_of t.heights ≡ rows_of s.heights → rows_of t.excesses ≡ rows_of s.excesses → rows_of t.flows ≡ rows_of s.flows → (made : Made) → has_room_in t made ≡ has_room_in s made
-rooms_same s t h e f made = room-same (flow_use made.call.method) s t made.call.a same
-  where
-    same : (sort : ℕ) → numbers_of t sort ≡ numbers_of s sort
-    same zero = h
-    same (suc zero) = e
-    same (suc (suc n)) = f

@@ -1,9 +1,9 @@
--- Laws of the entries of a hashed map of numbers.
-use Rattle.std.specs.Prelude.{◌≡◌, ℕ, ◌+◌, ℤ, pos, Bool, true, false, cond, not, List, [], ◌∷◌, Option, Some, None, unwrap_or, is_some, filter, refl, FitsSigned}
+-- The entries that hold 0: their count, and the map without them.
+use Rattle.std.specs.Prelude.{◌≡◌, ℕ, ◌+◌, ℤ, pos, Bool, true, false, cond, not, List, [], ◌∷◌, Option, Some, None, unwrap_or, filter, refl, FitsSigned}
 use Rattle.std.specs.Int.{w64}
 use Rattle.std.proofs.Common.{sym, ◌∙◌, ap, subst, arith, zero-add}
-use Rattle.std.specs.Ordering.{int_eq, int_cmp}
-use Rattle.std.specs.Cmp.{int_cmp_total, int_eq_equiv, signed_Decides}
+use Rattle.std.specs.Ordering.{int_eq}
+use Rattle.std.specs.Cmp.{int_eq_equiv, signed_Decides}
 use Rattle.std.specs.List.{IsDistinct}
 use Rattle.std.specs.Map.{lookup, keys_of}
 use Rattle.std.specs.FinMap as map
@@ -12,33 +12,7 @@ use Rattle.std.proofs.lemmas.Map.Entries.{option_filter, lookup-filter-values}
 use Rattle.indexmap.specs.IndexMap.{insert_entry}
 use Rattle.number_rows.specs.Entries.{FitAll, is_zero, dead_in, one_if, found_zero}
 use Rattle.number_rows.specs.Rows.{number_in}
-
-find-lookup : (es : List (ℤ × ℤ)) (q : ℤ) → map.find int_cmp q es ≡ lookup (int_eq q) es
-find-lookup [] q = refl
-find-lookup (e ∷ es) q = ap (cond (int_eq q e.0) (Some e.1)) (find-lookup es q)
-
--- the finite map of the entries has what a look-up finds
-pub get-entries : (es : List (ℤ × ℤ)) (q : ℤ) → map.get (map.from_entries {R = int_cmp} es) q ≡ lookup (int_eq q) es
-get-entries es q = map.get-from_entries int_cmp_total es q ∙ find-lookup es q
-
--- where the key and the number were read as bits
-pub found : (es : List (ℤ × ℤ)) (k kk x y : ℤ) → kk ≡ k → y ≡ x → Some x ≡ lookup (int_eq kk) es → y ≡ number_in (map.from_entries es) k
-found es k kk x y e h l = h ∙ ap (λ o. unwrap_or o (pos 0)) (l ∙ ap (λ z. lookup (int_eq z) es) e ∙ sym (get-entries es k))
-
-pub not_found : (es : List (ℤ × ℤ)) (k kk : ℤ) → kk ≡ k → None ≡ lookup (int_eq kk) es → pos 0 ≡ number_in (map.from_entries es) k
-not_found es k kk e l = ap (λ o. unwrap_or o (pos 0)) (l ∙ ap (λ z. lookup (int_eq z) es) e ∙ sym (get-entries es k))
-
-pub there : (es : List (ℤ × ℤ)) (k kk : ℤ) → kk ≡ k → is_some (lookup (int_eq kk) es) ≡ map.contains_key (map.from_entries {R = int_cmp} es) k
-there es k kk e = ap is_some (ap (λ z. lookup (int_eq z) es) e ∙ sym (get-entries es k))
-
--- an update of one key is an insert in the finite map
-pub from_entries-update : (es fs : List (ℤ × ℤ)) (k x : ℤ) → ((q : ℤ) → lookup (int_eq q) fs ≡ cond (int_eq k q) (Some x) (lookup (int_eq q) es)) → map.from_entries {R = int_cmp} fs ≡ map.insert (map.from_entries es) k x
-from_entries-update es fs k x u = map.same_map int_cmp_total map.int_cmp-IsAntisymmetric _ _ (λ q.
-    get-entries fs q ∙ u q ∙ ap (λ b. cond b (Some x) (lookup (int_eq q) es)) (int_eq_equiv.symm k q)
-    ∙ sym (map.get-insert int_cmp_total (map.from_entries es) k x q ∙ ap (cond (int_eq q k) (Some x)) (get-entries es q)))
-
-pub from_entries-update_at : (es fs : List (ℤ × ℤ)) (k kk x xx : ℤ) → kk ≡ k → xx ≡ x → ((q : ℤ) → lookup (int_eq q) fs ≡ cond (int_eq kk q) (Some xx) (lookup (int_eq q) es)) → map.from_entries {R = int_cmp} fs ≡ map.insert (map.from_entries es) k x
-from_entries-update_at es fs k kk x xx e f u = from_entries-update es fs kk xx u ∙ ap (λ z. map.insert (map.from_entries es) z xx) e ∙ ap (λ z. map.insert (map.from_entries es) k z) f
+use Rattle.number_rows.proofs.entries.Lookups.{get-entries}
 
 dead_cons : (e : ℤ × ℤ) (es : List (ℤ × ℤ)) → dead_in (e ∷ es) ≡ one_if (is_zero e.1) + dead_in es
 dead_cons e es = sum_by-cons (λ e. one_if (is_zero e.1)) e es
@@ -95,6 +69,3 @@ pub dead_in-live : (es : List (ℤ × ℤ)) → dead_in (live_entries es) ≡ 0
 dead_in-live [] = refl
 dead_in-live (e ∷ es) = dead_by (is_zero e.1) e (live_entries es) refl (dead_in-live es)
 
--- a number that is read fits
-pub FitAll-number_in : (es : List (ℤ × ℤ)) → FitAll es → (q : ℤ) → FitsSigned w64 (number_in (map.from_entries es) q)
-FitAll-number_in es h q = subst (FitsSigned w64) (sym (ap (λ o. unwrap_or o (pos 0)) (get-entries es q))) (h q)
