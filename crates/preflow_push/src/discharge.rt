@@ -8,12 +8,13 @@ ghost use Rattle.preflow_push.specs.Discharge.{names_node, node_item, residual, 
 ghost use Rattle.preflow_push.specs.Networks.{view};
 ghost use Rattle.preflow_push.specs.Stages.{value_of_reply};
 
-use crate::flow_calls::{EXCESS, FLOW, GAIN, HEIGHT, RELABEL, SEND, call_act, node_item};
+use crate::flow_calls::{call_act, node_item};
 use crate::network::Network;
 use crate::rooms::ROOMS;
 use crate::stages::{Stage, Walk};
 use crate::touches::{Touch, Touches};
 use commit_book::Operator;
+use flow_graph::{EXCESS, FLOW, GAIN, HEIGHT, RELABEL, SEND};
 use gx_base::{Act, Item, NoMemory, Reply};
 use std::alloc::Global;
 

@@ -6,19 +6,6 @@ ghost use Rattle.preflow_push.specs.Discharge.{node_item};
 use crate::rooms::room_of;
 use gx_base::{Act, Call, Item};
 
-// The methods of flow shards.
-pub const HEIGHT: u32 = 16;
-
-pub const RELABEL: u32 = 17;
-
-pub const EXCESS: u32 = 18;
-
-pub const GAIN: u32 = 19;
-
-pub const FLOW: u32 = 20;
-
-pub const SEND: u32 = 21;
-
 /// A call on a node or an arc.
 pub fn flow_call(method: u32, number: i64, amount: i64) -> Call
     ensures { result ≡ call_of method number amount }

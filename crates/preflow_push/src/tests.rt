@@ -1,9 +1,9 @@
 //! A network of four nodes, worked by hand.
 
-use crate::flow_calls::{EXCESS, FLOW, GAIN, HEIGHT, RELABEL, SEND, node_item};
+use crate::flow_calls::node_item;
 use crate::{Arc, Discharge, Network, report, start};
 use commit_book::{Commit, Operator};
-use flow_graph::FlowShard;
+use flow_graph::{EXCESS, FLOW, FlowShard, GAIN, HEIGHT, RELABEL, SEND};
 use gx_base::{Act, Call, Item, NoMemory, Reply, SeqType};
 use std::alloc::Global;
 use std::test::Fail;

@@ -1,19 +1,11 @@
 //! Gates over flow shards under the precise table, with values worked by hand.
-use flow_graph::FlowShard;
+use flow_graph::{EXCESS, FlowShard, GAIN, HEIGHT, RELABEL};
 use gate_core::laws::shipped_tables_serve_gates;
 use gate_core::{Entry, Gate, GateRefuse, ScanScreen, Told};
 use gx_base::{Call, Choice, Item, Kind, NoMemory, Reply, Seen, SeqType};
 use kind_tables::laws::tables_below_shipped_ones_are_not_general;
 use std::alloc::Global;
 use std::test::Fail;
-
-const HEIGHT: u32 = 16;
-
-const RELABEL: u32 = 17;
-
-const EXCESS: u32 = 18;
-
-const GAIN: u32 = 19;
 
 const ITEM: Item = Item {
     k0: 0,

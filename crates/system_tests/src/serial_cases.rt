@@ -7,13 +7,9 @@ ghost use Rattle.gx_base.specs.Plans as plans;
 ghost use Rattle.system_tests.specs.declared.serial_cases.Stage.TheVariants as stages;
 
 use commit_book::{Act, Commit, Operator, Worklist, run_serially};
-use flow_graph::FlowShard;
+use flow_graph::{EXCESS, FlowShard, GAIN};
 use gx_base::{Call, Item, Reply};
 use std::test::Fail;
-
-const EXCESS: u32 = 18;
-
-const GAIN: u32 = 19;
 
 /// Where the body of a `Bump` stands.
 #[derive(Clone, Copy, Debug, PartialEq, Eq, Drop)]
