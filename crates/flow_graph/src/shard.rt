@@ -102,6 +102,17 @@ impl FlowShard {
             Quantity::Flow => self.flows.rewrite(key, number),
         }
     }
+
+    fn tidy_rows(&mut self)
+        ensures state { state_of self.new ≡ state_of self.old }
+        ensures lean { IsLeanShard self.new }
+        ensures dropped { (sort : ℕ) → ¬ (IsLean (sorted self.old sort)) → dead_rows (sorted self.new sort) ≡ 0 }
+        ensures idle { IsLeanShard self.old → self.new ≡ self.old }
+    {
+        self.heights.tidy();
+        self.excesses.tidy();
+        self.flows.tidy();
+    }
 }
 
 fn number_reply(number: i64) -> Reply
@@ -197,9 +208,7 @@ impl SeqType for FlowShard {
         ensures dropped { (sort : ℕ) → ¬ (IsLean (sorted self.old sort)) → dead_rows (sorted self.new sort) ≡ 0 }
         ensures idle { IsLeanShard self.old → self.new ≡ self.old }
     {
-        self.heights.tidy();
-        self.excesses.tidy();
-        self.flows.tidy();
+        self.tidy_rows();
         Ok(())
     }
 

@@ -1,23 +1,15 @@
 -- What reads and writes of one number are in the state of a shard.
-use Rattle.std.proofs.Common.{◌≡◌, ℕ, zero, suc, ℤ, List, refl, sym, ◌∙◌, ap, subst, IsTrue}
+use Rattle.std.proofs.Common.{◌≡◌, ℤ, List, sym, ◌∙◌, ap}
 use Rattle.std.specs.FinMap as map
-use Rattle.gx_base.specs.declared.calls.Made.{Made}
 use Rattle.gx_base.specs.declared.kinds.Kind.TheVariants.{Flow as flow}
 use Rattle.gx_base.specs.Kinds.{kind_number}
 use Rattle.gx_base.specs.States.{State, row_cmp, rows_with, number_at, with_number}
-use Rattle.gx_base.specs.RegisterDeeds.{Use, Nothing, On, Reads, Adds, Sets}
-use Rattle.gx_base.specs.FlowKind.{flow_use}
-use Rattle.number_rows.specs.declared.rows.NumberRows.{NumberRows}
 use Rattle.number_rows.specs.Rows.{number_in}
-use Rattle.number_rows.specs.NumberRows.{rows_of}
-use Rattle.number_rows.proofs.CallerLemmas.{contains_key-insert, contains_key-inserted}
-use Rattle.flow_graph.specs.declared.shard.FlowShard.{FlowShard}
 use Rattle.flow_graph.specs.declared.uses.Quantity.{Quantity}
 use Rattle.flow_graph.specs.declared.uses.Quantity.TheVariants.{Height, Excess, Flow}
 use Rattle.flow_graph.specs.Uses.{sort_of}
 use Rattle.flow_graph.specs.FlowRows.{Numbers, flow_rows}
 use Rattle.flow_graph.proofs.flow_rows.RowLaws.{flow_rows-height, flow_rows-excess, flow_rows-flow, number-heights, number-excesses, number-flows}
-use Rattle.flow_graph.specs.FlowState.{numbers_of, has_row_in, room_for, has_room_in}
 
 abbrev pub with_rows : map.FinMap row_cmp (List ℤ) → State
 with_rows rows = record { kind = kind_number flow; rows = rows }

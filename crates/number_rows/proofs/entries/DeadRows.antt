@@ -68,4 +68,3 @@ dead_by false e es z h = dead_cons e es ∙ ap (λ b. one_if b + dead_in es) z �
 pub dead_in-live : (es : List (ℤ × ℤ)) → dead_in (live_entries es) ≡ 0
 dead_in-live [] = refl
 dead_in-live (e ∷ es) = dead_by (is_zero e.1) e (live_entries es) refl (dead_in-live es)
-

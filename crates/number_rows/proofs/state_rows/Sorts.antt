@@ -145,4 +145,3 @@ rows_onto-same base sort m n free h = by_sorts base sort m (rows_onto base sort 
 -- no number is no row
 pub rows_onto-empty : (base : map.FinMap row_cmp (List ℤ)) (sort : ℕ) → rows_onto base sort map.empty ≡ base
 rows_onto-empty base sort = by_sorts base sort map.empty base (λ k. sym (ap (row_or (map.get base (sort, k))) (map.get-empty int_cmp k))) (λ i k n. refl)
-
