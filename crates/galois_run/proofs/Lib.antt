@@ -1,2 +1,2 @@
+pub mod commanded
 pub mod refusals
-pub mod runs
