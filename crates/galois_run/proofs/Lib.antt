@@ -1,2 +1,2 @@
-pub mod commanded
+pub mod meanings
 pub mod refusals

@@ -3,6 +3,6 @@ pub mod Words
 pub mod Inputs
 pub mod Meanings
 pub mod commands
-pub mod Commanded
+pub mod CommandMeanings
 pub mod RunFaults
 pub mod RunTurns

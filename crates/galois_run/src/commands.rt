@@ -3,7 +3,7 @@
 pub mod classify;
 pub mod flow;
 
-ghost use Rattle.galois_run.specs.Commanded.{meaning_of};
+ghost use Rattle.galois_run.specs.CommandMeanings.{meaning_of};
 ghost use Rattle.galois_run.specs.Inputs.{inputs_in};
 ghost use Rattle.galois_run.specs.RunFaults.{Answers};
 ghost use Rattle.galois_run.specs.Words.{planned};

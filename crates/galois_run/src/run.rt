@@ -3,7 +3,7 @@
 ghost use Rattle.std.specs.Prelude.{◌≡◌, ◌≢◌, ◌↔◌, None, Err, IfSome, IfOk, IfErr, map, string_bytes, true, false};
 ghost use Rattle.gx_io.specs.Faults.{Counts};
 ghost use Rattle.gx_io.specs.Sinks.{AddsWhole, AddsFront};
-ghost use Rattle.galois_run.specs.Commanded.{meaning_of};
+ghost use Rattle.galois_run.specs.CommandMeanings.{meaning_of};
 ghost use Rattle.galois_run.specs.Inputs.{inputs_of, OnInputs};
 ghost use Rattle.galois_run.specs.RunTurns.{IsCaused, IsReported, IsWritten, IsCutShort, IsAnswer, writes, IsRefusal, ending};
 ghost use Rattle.galois_run.specs.Words.{plan_of, planned};

@@ -1,5 +1,5 @@
 -- From the making of a report and its writing to the status.
-use Rattle.std.proofs.Common.{◌≡◌, ◌≢◌, inl, inr, ℕ, ◌≤◌, true, List, Option, Some, None, IfSome, IsSomeAnd, Ok, Err, Vec, refl, subst, arith}
+use Rattle.std.proofs.Common.{◌≡◌, ◌≢◌, inl, inr, ℕ, true, List, Option, Some, None, IfSome, IsSomeAnd, Ok, Err, Vec, refl, subst, arith}
 use Rattle.std.specs.Global.{Global}
 use Rattle.gx_base.specs.declared.inputs.What.{What}
 use Rattle.galois_run.specs.declared.run_faults.RunFault.{RunFault}
@@ -8,7 +8,7 @@ use Rattle.galois_run.specs.declared.status.Status.{Status}
 use Rattle.galois_run.specs.declared.status.Status.TheVariants as statuses
 use Rattle.galois_run.specs.declared.words.Command.{Command}
 use Rattle.galois_run.specs.declared.words.Command.TheVariants.{Flow, Classify}
-use Rattle.galois_run.specs.Commanded.{meaning_by}
+use Rattle.galois_run.specs.CommandMeanings.{meaning_by}
 use Rattle.galois_run.specs.Inputs.{Inputs, IsWithin, IsTooLong, AreWithin, HasTooLong}
 use Rattle.galois_run.specs.Meanings.{Meaning}
 use Rattle.galois_run.specs.RunFaults.{status_of_fault, FaultsWhere, Answers}

@@ -1,4 +1,4 @@
-use Rattle.galois_run.specs.Commanded.{meaning_of}
+use Rattle.galois_run.specs.CommandMeanings.{meaning_of}
 use Rattle.galois_run.specs.Inputs.{inputs_of}
 use Rattle.galois_run.specs.Words.{planned}
 use Rattle.galois_run.proofs.refusals.Refusals.{written_by_held}

@@ -1,5 +1,5 @@
 use Rattle.galois_run.specs.commands.Classify.{all_kinds}
-use Rattle.galois_run.proofs.commanded.ClassifyAnswers.{text_refused, text_reported, class_report}
+use Rattle.galois_run.proofs.meanings.ClassifyAnswers.{text_refused, text_reported, class_report}
 use Rattle.galois_run.proofs.commands.classify.classify_bytes.Goals as goal
 
 pub returns-in-Err-clause-faulty : goal.returns-in-Err-clause-faulty

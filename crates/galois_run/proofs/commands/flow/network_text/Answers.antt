@@ -5,7 +5,7 @@ use Rattle.preflow_push.specs.Networks.{view}
 use Rattle.commit_book.specs.Commits.{items_of}
 use Rattle.preflow_push.specs.Discharges.{plan_of}
 use Rattle.preflow_push.specs.FlowReports.{flow_report}
-use Rattle.galois_run.proofs.commanded.FlowRuns.{reported, unfinished, front}
+use Rattle.galois_run.proofs.meanings.FlowRuns.{reported, unfinished, front}
 use Rattle.galois_run.proofs.commands.flow.network_text.Goals as goal
 
 pub returns-in-Ok-clause-reported : goal.returns-in-Ok-clause-reported

@@ -1,5 +1,5 @@
 use Rattle.galois_run.specs.Inputs.{inputs_in}
-use Rattle.galois_run.proofs.commanded.FlowAnswers.{flow_answers}
+use Rattle.galois_run.proofs.meanings.FlowAnswers.{flow_answers}
 use Rattle.galois_run.proofs.commands.flow.report_flow.Goals as goal
 
 pub returns : goal.returns

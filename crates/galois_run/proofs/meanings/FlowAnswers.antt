@@ -6,7 +6,7 @@ use Rattle.galois_run.specs.declared.run_faults.RunFault.TheVariants.{BadInput, 
 use Rattle.galois_run.specs.Inputs.{Inputs, main_of}
 use Rattle.galois_run.specs.RunFaults.{FaultsWhere, Answers}
 use Rattle.galois_run.specs.commands.Flow.{IsFlowReport, IsNoFlow, IsUnfinishedFlow, flow_meaning}
-use Rattle.galois_run.proofs.commanded.FlowRuns.{ends_or_is_unfinished}
+use Rattle.galois_run.proofs.meanings.FlowRuns.{ends_or_is_unfinished}
 
 abbrev Made : Type 0
 Made = Result (Vec ℕ Global) RunFault

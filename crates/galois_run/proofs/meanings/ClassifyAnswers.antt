@@ -1,5 +1,5 @@
 -- The faults that `classify` finds in a file.
-use Rattle.std.proofs.Common.{◌≡◌, inl, inr, ℕ, List, Result, Ok, Err, refl, sym, ap, subst}
+use Rattle.std.proofs.Common.{◌≡◌, inl, inr, ℕ, List, Ok, Err, refl, sym, ap, subst}
 use Rattle.gx_base.specs.declared.kinds.Kind.{Kind}
 use Rattle.gx_base.specs.TableRows.{RowMap, row_of}
 use Rattle.cond_syntax.specs.TableTexts.{Fault, IsTableText, IsFirstFault}
