@@ -1,2 +1,2 @@
+pub mod meanings
 pub mod refusals
-pub mod runs

@@ -1,2 +1,1 @@
-pub mod FaultyFiles
 pub mod Refusals

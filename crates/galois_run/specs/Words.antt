@@ -1,14 +1,21 @@
 -- The words of a command line.
-use Rattle.std.specs.Prelude.{◌≡◌, ℕ, Bool, not, ◌&&◌, ◌==◌, if◌then◌else◌, List, [], ◌∷◌, length, Option, Some, None, IfSome, codes, bytes_eq, nat_eq, string_bytes}
+use Rattle.std.specs.Prelude.{◌≡◌, ℕ, Bool, not, ◌&&◌, ◌==◌, if◌then◌else◌, List, [], ◌∷◌, length, Option, Some, None, codes, bytes_eq, nat_eq, string_bytes}
 use Rattle.std.specs.List.{starts_with}
 use Rattle.galois_run.specs.declared.words.Command.{Command}
 use Rattle.galois_run.specs.declared.words.Command.TheVariants.{Flow, Classify}
 use Rattle.galois_run.specs.declared.words.Plan.{Plan}
 
--- a command and the name of its file
+-- a command, and the names of the files that are to be read for it, where the words give them: its main file, a file
+-- of conditions, and a second file
 pub record Planned : Type 0 where
   pub command : Command
-  pub file : List ℕ
+  pub main : Option (List ℕ)
+  pub conditions : Option (List ℕ)
+  pub second : Option (List ℕ)
+
+-- a command on one file
+abbrev pub on_main : Command → List ℕ → Planned
+on_main command file = record { command = command; main = Some file; conditions = None; second = None }
 
 abbrev pub command_of : List ℕ → Option Command
 command_of word =
@@ -22,7 +29,7 @@ is_plain word = not (length word == 0) && not (starts_with nat_eq word (codes "-
 
 abbrev pub with_file : Option Command → List ℕ → Option Planned
 with_file None file = None
-with_file (Some command) file = if is_plain file then Some (record { command = command; file = file }) else None
+with_file (Some command) file = if is_plain file then Some (on_main command file) else None
 
 -- the grammar of the words: a command and one plain word
 abbrev pub plan_of : List (List ℕ) → Option Planned
@@ -32,12 +39,7 @@ plan_of (word ∷ file ∷ []) = with_file (command_of word) file
 plan_of (word ∷ file ∷ more ∷ words) = None
 
 abbrev pub planned : Plan → Planned
-planned plan = record { command = plan.command; file = string_bytes plan.file }
+planned plan = on_main plan.command (string_bytes plan.file)
 
 abbrev pub IsPlanned : Option Planned → Plan → Type 0
 IsPlanned wanted plan = wanted ≡ Some (planned plan)
-
--- what holds of the plan's command and of the bytes under the plan's name, where there is a plan and the files tell them
-abbrev pub OnFile : Option Planned → (List ℕ → Option (List ℕ)) → (Command → List ℕ → Type 0) → Type 0
-OnFile None holds fact = Unit {0}
-OnFile (Some plan) holds fact = IfSome (holds plan.file) (fact plan.command)

@@ -1,25 +1,21 @@
 //! The top call.
 
-ghost use Rattle.std.specs.Prelude.{◌≡◌, ◌↔◌, ℕ, None, IfSome, IfOk, map, string_bytes, false};
-ghost use Rattle.gx_io.specs.Faults.{HasRisen};
-ghost use Rattle.gx_base.specs.declared.inputs.What.TheVariants.{File};
-ghost use Rattle.galois_run.specs.Words.{plan_of, OnFile};
-ghost use Rattle.galois_run.specs.RunTurns.{IsReported, IsMalformed, IsUnfinished, IsWithin, IsTooLong, ComesWhere, IsWritten, IsCutShort, IsAnswer, writes, FaultsWhere, IsCaused};
-ghost use Rattle.galois_run.specs.declared.run_faults.RunFault.TheVariants as faults;
+ghost use Rattle.std.specs.Prelude.{◌≡◌, ◌≢◌, ◌↔◌, None, Err, IfSome, IfOk, IfErr, map, string_bytes, true, false};
+ghost use Rattle.gx_io.specs.Faults.{Counts};
+ghost use Rattle.gx_io.specs.Sinks.{AddsWhole, AddsFront};
+ghost use Rattle.galois_run.specs.CommandMeanings.{meaning_of};
+ghost use Rattle.galois_run.specs.Inputs.{inputs_of, OnInputs};
+ghost use Rattle.galois_run.specs.RunTurns.{IsCaused, IsReported, IsWritten, IsCutShort, IsAnswer, writes, IsRefusal, ending};
+ghost use Rattle.galois_run.specs.Words.{plan_of, planned};
 
-use crate::classifying::classify_bytes;
-use crate::flow::flow_text;
-use crate::run_faults::RunFault;
+use crate::commands::report_of;
+use crate::inputs::read_inputs;
 use crate::status::Status;
-use crate::words::{Command, WordsFault, read_words};
-use gx_base::What;
-use gx_io::{Files, Sink, WholeRefuse, read_whole, write_whole};
+use crate::words::{Plan, WordsFault, read_words};
+use gx_io::{Files, Sink, write_whole};
 use std::alloc::Global;
 
-/// How many bytes a file may have.
-const MOST_BYTES: u64 = 67_108_864;
-
-/// Does what the words ask for: reads the file that they name, and writes the command's report on it once that is
+/// Does what the words ask for: reads the files that they name, and writes the command's report on them once that is
 /// made whole. It returns for every input.
 pub fn run_turns<F: Files, K: Sink>(
     alloc: Global,
@@ -27,71 +23,70 @@ pub fn run_turns<F: Files, K: Sink>(
     files: &mut F,
     out: &mut K,
 ) -> Status
-    // The command's report on the file was written whole and flushed.
-    ensures ok { result ≡ Status.Ok → OnFile (plan_of (map string_bytes words.now)) (F.holds files.old) (λ command bytes. IsWritten command bytes (K.told out.old) (K.told out.new)) }
+    // The command's report on its inputs was written whole and flushed.
+    ensures ok { result ≡ Status.Ok → OnInputs (plan_of (map string_bytes words.now)) (F.holds files.old) (λ plan inputs. IsWritten (meaning_of plan) inputs (K.told out.old) (K.told out.new)) }
 
     // Each refusal comes by its cause.
     ensures usage { (result ≡ Status.Usage) ↔ (plan_of (map string_bytes words.now) ≡ None) }
-    ensures read_fault { result ≡ Status.ReadFault → HasRisen (F.faults files.old) (F.faults files.new) }
-    ensures too_large { OnFile (plan_of (map string_bytes words.now)) (F.holds files.old) (λ command bytes. ComesWhere (IsTooLong bytes) (Status.TooLarge File) result) }
-    ensures bad_input { OnFile (plan_of (map string_bytes words.now)) (F.holds files.old) (λ command bytes. (line : ℕ) → ComesWhere (IsWithin bytes × IsMalformed command bytes line) (Status.BadInput line) result) }
-    ensures spent { OnFile (plan_of (map string_bytes words.now)) (F.holds files.old) (λ command bytes. ComesWhere (IsWithin bytes × IsUnfinished command bytes) Status.Spent result) }
-    ensures write_fault { result ≡ Status.WriteFault → HasRisen (K.faults out.old) (K.faults out.new) }
-    ensures cut_short { result ≡ Status.WriteFault → OnFile (plan_of (map string_bytes words.now)) (F.holds files.old) (λ command bytes. IsCutShort command bytes (K.told out.old) (K.told out.new)) }
-    ensures answers { IfSome (plan_of (map string_bytes words.now)) (λ plan. IsAnswer plan.command result) }
+    ensures caused { OnInputs (plan_of (map string_bytes words.now)) (F.holds files.old) (λ plan inputs. IsCaused (meaning_of plan) inputs result) }
+    ensures cut_short { result ≡ Status.WriteFault → OnInputs (plan_of (map string_bytes words.now)) (F.holds files.old) (λ plan inputs. IsCutShort (meaning_of plan) inputs (K.told out.old) (K.told out.new)) }
+    ensures answers { IfSome (plan_of (map string_bytes words.now)) (λ plan. IsAnswer (meaning_of plan) result) }
+
+    // A count of faults rises with the status that tells the fault, and stays with every other.
+    ensures read_fault { Counts (F.faults files.old) (F.faults files.new) (result ≡ Status.ReadFault) (result ≢ Status.ReadFault) }
+    ensures write_fault { Counts (K.faults out.old) (K.faults out.new) (result ≡ Status.WriteFault) (result ≢ Status.WriteFault) }
 
     // On every status but Ok and WriteFault nothing was written.
     ensures silent { writes result ≡ false → K.told out.new ≡ K.told out.old }
+    ensures holds { F.holds files.new ≡ F.holds files.old }
 {
     match read_words(alloc, words) {
-        Ok(plan) => run_command(alloc, plan.command(), plan.file(), files, out),
+        Ok(plan) => run_command(alloc, &plan, files, out),
         Err(WordsFault::Usage) => Status::Usage,
         Err(WordsFault::NoMemory) => Status::NoMemory,
     }
 }
 
-/// Reads the file of this name and writes the command's report on it.
-fn run_command<F: Files, K: Sink>(
-    alloc: Global,
-    command: Command,
-    name: &str,
-    files: &mut F,
-    out: &mut K,
-) -> Status
-    ensures caused { IfSome (F.holds files.old name.now) (λ bytes. IsCaused command bytes result) }
-    ensures ok { result ≡ Status.Ok → IfSome (F.holds files.old name.now) (λ bytes. IsWritten command bytes (K.told out.old) (K.told out.new)) }
-    ensures cut_short { result ≡ Status.WriteFault → IfSome (F.holds files.old name.now) (λ bytes. IsCutShort command bytes (K.told out.old) (K.told out.new)) }
-    ensures read_fault { result ≡ Status.ReadFault → HasRisen (F.faults files.old) (F.faults files.new) }
-    ensures write_fault { result ≡ Status.WriteFault → HasRisen (K.faults out.old) (K.faults out.new) }
-    ensures answers { IsAnswer command result }
-    ensures understood { result ≡ Status.Usage → ⊥ }
+/// Makes the planned command's report on its inputs, and writes it.
+fn run_command<F: Files, K: Sink>(alloc: Global, plan: &Plan, files: &mut F, out: &mut K) -> Status
+    ensures ok { result ≡ Status.Ok → IfSome (inputs_of (planned plan.now) (F.holds files.old)) (λ inputs. IsWritten (meaning_of (planned plan.now)) inputs (K.told out.old) (K.told out.new)) }
+    ensures understood { result ≢ Status.Usage }
+    ensures caused { IfSome (inputs_of (planned plan.now) (F.holds files.old)) (λ inputs. IsCaused (meaning_of (planned plan.now)) inputs result) }
+    ensures cut_short { result ≡ Status.WriteFault → IfSome (inputs_of (planned plan.now) (F.holds files.old)) (λ inputs. IsCutShort (meaning_of (planned plan.now)) inputs (K.told out.old) (K.told out.new)) }
+    ensures answers { IsAnswer (meaning_of (planned plan.now)) result }
+    ensures read_fault { Counts (F.faults files.old) (F.faults files.new) (result ≡ Status.ReadFault) (result ≢ Status.ReadFault) }
+    ensures write_fault { Counts (K.faults out.old) (K.faults out.new) (result ≡ Status.WriteFault) (result ≢ Status.WriteFault) }
     ensures silent { writes result ≡ false → K.told out.new ≡ K.told out.old }
+    ensures holds { F.holds files.new ≡ F.holds files.old }
 {
-    let bytes = match read_whole(alloc, files, name, MOST_BYTES) {
-        Ok(bytes) => bytes,
-        Err(WholeRefuse::Failed) => return Status::ReadFault,
-        Err(WholeRefuse::TooLong) => return Status::TooLarge { what: What::File },
-        Err(WholeRefuse::NoMemory) => return Status::NoMemory,
-    };
-    match report_text(alloc, command, &bytes) {
-        Ok(text) => match write_whole(out, &text) {
-            Ok(()) => Status::Ok,
-            Err(_) => Status::WriteFault,
-        },
-        Err(RunFault::BadInput { line }) => Status::BadInput { line },
-        Err(RunFault::Spent) => Status::Spent,
-        Err(RunFault::NoMemory) => Status::NoMemory,
+    match make_report(alloc, plan, files) {
+        Ok(text) => put_report(out, &text),
+        Err(status) => status,
     }
 }
 
-/// The command's report on these bytes of a file.
-fn report_text(alloc: Global, command: Command, bytes: &[u8]) -> Result<Vec<u8>, RunFault>
-    ensures reported { IfOk result (λ text. IsReported command bytes.now text.items) }
-    ensures malformed { (line : ℕ) → FaultsWhere (IsMalformed command bytes.now line) (faults.BadInput line) result }
-    ensures unfinished { FaultsWhere (IsUnfinished command bytes.now) faults.Spent result }
+/// Reads the files that the plan names, and makes the planned command's report on them.
+fn make_report<F: Files>(alloc: Global, plan: &Plan, files: &mut F) -> Result<Vec<u8>, Status>
+    ensures reported { IfOk result (λ text. IfSome (inputs_of (planned plan.now) (F.holds files.old)) (λ inputs. IsReported (meaning_of (planned plan.now)) inputs text.items)) }
+    ensures caused { IfSome (inputs_of (planned plan.now) (F.holds files.old)) (λ inputs. IsCaused (meaning_of (planned plan.now)) inputs (ending result)) }
+    ensures refusal { IfErr result IsRefusal }
+    ensures answers { IfErr result (IsAnswer (meaning_of (planned plan.now))) }
+    ensures read_fault { Counts (F.faults files.old) (F.faults files.new) (result ≡ Err Status.ReadFault) (result ≢ Err Status.ReadFault) }
+    ensures holds { F.holds files.new ≡ F.holds files.old }
 {
-    match command {
-        Command::Flow => flow_text(alloc, bytes),
-        Command::Classify => classify_bytes(alloc, bytes),
+    let inputs = read_inputs(alloc, plan, files)?;
+    Ok(report_of(alloc, plan, &inputs)?)
+}
+
+/// Writes a report.
+fn put_report<K: Sink>(out: &mut K, text: &[u8]) -> Status
+    ensures whole { result ≡ Status.Ok → AddsWhole (K.told out.old) (K.told out.new) text.now }
+    ensures front { AddsFront (K.told out.old) (K.told out.new) text.now }
+    ensures write_fault { Counts (K.faults out.old) (K.faults out.new) (result ≡ Status.WriteFault) (result ≢ Status.WriteFault) }
+    ensures writes { writes result ≡ true }
+{
+    match write_whole(out, text) {
+        Ok(()) => Status::Ok,
+        Err(_) => Status::WriteFault,
     }
 }

@@ -1,11 +1,13 @@
-//! Why a command makes no report on a file.
+//! Why a command makes no report on its inputs.
 
-use gx_base::NoMemory;
+use crate::status::Status;
+use gx_base::{NoMemory, What};
+use gx_io::WholeRefuse;
 
-/// Why there is no report on a file.
+/// Why there is no report on the inputs.
 #[derive(Clone, Copy, Debug, PartialEq, Eq, Drop)]
 pub enum RunFault {
-    /// The file is not of the form, and this line is told.
+    /// The inputs are not of the form, and this line is told.
     BadInput { line: u64 },
     /// As many items have committed as may, and one is ready.
     Spent,
@@ -20,5 +22,35 @@ impl From<NoMemory> for RunFault {
 
     fn from(_refused: NoMemory) -> RunFault {
         RunFault::NoMemory
+    }
+}
+
+impl From<RunFault> for Status {
+    ghost use Rattle.std.specs.Prelude.{◌≡◌};
+    ghost use Rattle.galois_run.specs.RunFaults.{status_of_fault};
+
+    ghost from_gives = { λ fault status. status ≡ status_of_fault fault };
+
+    fn from(fault: RunFault) -> Status {
+        match fault {
+            RunFault::BadInput { line } => Status::BadInput { line },
+            RunFault::Spent => Status::Spent,
+            RunFault::NoMemory => Status::NoMemory,
+        }
+    }
+}
+
+impl From<WholeRefuse> for Status {
+    ghost use Rattle.std.specs.Prelude.{◌≡◌};
+    ghost use Rattle.galois_run.specs.RunFaults.{status_of_refusal};
+
+    ghost from_gives = { λ refusal status. status ≡ status_of_refusal refusal };
+
+    fn from(refusal: WholeRefuse) -> Status {
+        match refusal {
+            WholeRefuse::Failed => Status::ReadFault,
+            WholeRefuse::TooLong => Status::TooLarge { what: What::File },
+            WholeRefuse::NoMemory => Status::NoMemory,
+        }
     }
 }

@@ -78,8 +78,9 @@ impl Plan {
         self.command
     }
 
+    /// The name of the command's main file.
     pub fn file(&self) -> &str
-        ensures { result.now ≡ (planned self.now).file }
+        ensures { (planned self.now).main ≡ Some result.now }
     {
         self.file.as_str()
     }

@@ -1,50 +1,97 @@
--- From what was made of a file's bytes to the status.
-use Rattle.std.proofs.Common.{◌≡◌, inl, inr, ℕ, ◌≤◌, List, length, Option, Some, None, IfSome, Ok, sym, ◌∙◌, subst, arith}
-use Rattle.gx_io.specs.Sinks.{Written, AddsWhole, AddsFront}
+-- From the making of a report and its writing to the status.
+use Rattle.std.proofs.Common.{◌≡◌, ◌≢◌, inl, inr, ℕ, true, List, Option, Some, None, IfSome, IsSomeAnd, Ok, Err, Vec, refl, subst, arith}
+use Rattle.std.specs.Global.{Global}
+use Rattle.gx_base.specs.declared.inputs.What.{What}
 use Rattle.galois_run.specs.declared.run_faults.RunFault.{RunFault}
-use Rattle.galois_run.specs.declared.run_faults.RunFault.TheVariants.{BadInput, Spent}
+use Rattle.galois_run.specs.declared.run_faults.RunFault.TheVariants.{BadInput, Spent, NoMemory}
 use Rattle.galois_run.specs.declared.status.Status.{Status}
 use Rattle.galois_run.specs.declared.status.Status.TheVariants as statuses
 use Rattle.galois_run.specs.declared.words.Command.{Command}
-use Rattle.galois_run.specs.RunTurns.{most_bytes, IsReported, IsMalformed, IsUnfinished, IsWithin, IsTooLong, ComesWhere, IsWritten, IsCutShort, FaultsWhere, IsCaused}
+use Rattle.galois_run.specs.declared.words.Command.TheVariants.{Flow, Classify}
+use Rattle.galois_run.specs.CommandMeanings.{meaning_by}
+use Rattle.galois_run.specs.Inputs.{Inputs, IsWithin, IsTooLong, AreWithin, HasTooLong}
+use Rattle.galois_run.specs.Meanings.{Meaning}
+use Rattle.galois_run.specs.RunFaults.{status_of_fault, FaultsWhere, Answers}
+use Rattle.galois_run.specs.RunTurns.{ComesWhere, IsCaused, IsAnswer, writes}
 
-never : (cause : Type 0) (is status : Status) → (status ≡ is → ⊥) → (cause → ⊥) → ComesWhere cause is status
-never cause is status other none = record { only = λ e. absurd (other e); always = λ h. absurd (none h) }
+-- ---- where a report is made, there is no cause for a refusal
 
--- where a report was made, there is no cause for a fault
-no_fault : {A : Type 0} (cause : Type 0) (fault : RunFault) (text : A) → FaultsWhere cause fault (Ok text) → cause → ⊥
-no_fault cause fault text exact h = elim (exact.always h) [ inl e ↦ absurd (cc) | inr e ↦ absurd (cc) ]
+short_or_long : (file : Option (List ℕ)) → IfSome file IsWithin → IsSomeAnd file IsTooLong → ⊥
+short_or_long None within long = long
+short_or_long (Some bytes) within long = omega (arith, within, long)
 
-within_or_not : (bytes : List ℕ) → IsWithin bytes → IsTooLong bytes → ⊥
-within_or_not bytes within long = omega (arith, within, long)
+not_too_long : (inputs : Inputs) → AreWithin inputs → HasTooLong inputs → ⊥
+not_too_long inputs within (inl main) = short_or_long inputs.main within.main main
+not_too_long inputs within (inr (inl conditions)) = short_or_long inputs.conditions within.conditions conditions
+not_too_long inputs within (inr (inr second)) = short_or_long inputs.second within.second second
 
-reported_caused : {A : Type 0} (command : Command) (bytes : List ℕ) (text : A) → IsWithin bytes
-    → ((line : ℕ) → FaultsWhere (IsMalformed command bytes line) (BadInput line) (Ok text)) → FaultsWhere (IsUnfinished command bytes) Spent (Ok text)
-    → IsCaused command bytes statuses.Ok
-reported_caused command bytes text within malformed spent = record {
-  too_large = never _ _ _ (λ e. cc) (within_or_not bytes within);
-  bad_input = λ line. never _ _ _ (λ e. cc) (λ m. no_fault _ _ text (malformed line) m.1);
-  spent = never _ _ _ (λ e. cc) (λ m. no_fault _ _ text spent m.1);
+-- the limit on files is the only one of each command
+not_too_large : (command : Command) (inputs : Inputs) (what : What) → AreWithin inputs → (meaning_by command).too_large inputs what → ⊥
+not_too_large Flow inputs what within passed = not_too_long inputs within passed.1
+not_too_large Classify inputs what within passed = not_too_long inputs within passed.1
+
+never : {cause : Type 0} (is status : Status) → status ≢ is → (cause → ⊥) → ComesWhere cause is status
+never is status other none = record { only = λ e. absurd (other e); always = λ h. absurd (none h) }
+
+no_fault : {A cause : Type 0} (fault : RunFault) (text : A) → FaultsWhere cause fault (Ok text) → cause → ⊥
+no_fault fault text exact h = elim (exact.always h) [ inl e ↦ absurd (cc) | inr e ↦ absurd (cc) ]
+
+report_caused : (command : Command) (inputs : Inputs) (text : Vec ℕ Global) → AreWithin inputs → Answers (meaning_by command) inputs (Ok text) → IsCaused (meaning_by command) inputs statuses.Ok
+report_caused command inputs text within answers = record {
+  too_large = λ what. never _ _ (λ e. cc) (not_too_large command inputs what within);
+  bad_input = λ line. never _ _ (λ e. cc) (λ m. no_fault _ text (answers.malformed line) m.1);
+  spent = never _ _ (λ e. cc) (λ m. no_fault _ text answers.unfinished m.1);
 }
 
--- What holds of the bytes that were seen holds of what a name holds, where that is told: these are the bytes that were
--- read, and they are not too many.
-of_held : (o : Option (List ℕ)) (seen bytes : List ℕ) (P : List ℕ → Type 0) → seen ≡ bytes → IfSome o (λ all. bytes ≡ all) → length bytes ≤ most_bytes
-    → (IsWithin seen → P seen) → IfSome o P
-of_held None seen bytes P e same within h = tt
-of_held (Some all) seen bytes P e same within h = subst P (e ∙ same) (h (subst (λ (x : List ℕ). length x ≤ most_bytes) (sym e) within))
+-- what holds of the inputs that were read holds of those that the files hold, where that is told
+at_inputs : (held : Option Inputs) (read : Inputs) (P : Inputs → Type 0) → IfSome held (λ inputs. read ≡ inputs) → P read → IfSome held P
+at_inputs None read P same h = tt
+at_inputs (Some inputs) read P same h = subst P same h
 
-pub caused_by_held : {A : Type 0} (o : Option (List ℕ)) (seen bytes : List ℕ) (command : Command) (text : A) → seen ≡ bytes → IfSome o (λ all. bytes ≡ all) → length bytes ≤ most_bytes
-    → ((line : ℕ) → FaultsWhere (IsMalformed command seen line) (BadInput line) (Ok text)) → FaultsWhere (IsUnfinished command seen) Spent (Ok text)
-    → IfSome o (λ all. IsCaused command all statuses.Ok)
-caused_by_held o seen bytes command text e same within malformed spent = of_held o seen bytes _ e same within (λ small. reported_caused command seen text small malformed spent)
+pub report_by_held : (command : Command) (held : Option Inputs) (read : Inputs) (text : Vec ℕ Global) → IfSome held (λ inputs. read ≡ inputs) → AreWithin read
+    → Answers (meaning_by command) read (Ok text) → IfSome held (λ inputs. IsCaused (meaning_by command) inputs statuses.Ok)
+report_by_held command held read text same within answers = at_inputs held read _ same (report_caused command read text within answers)
 
-pub written_of_held : (o : Option (List ℕ)) (seen bytes report put : List ℕ) (command : Command) (before after : Option Written) → seen ≡ bytes → IfSome o (λ all. bytes ≡ all) → length bytes ≤ most_bytes
-    → IsReported command seen report → put ≡ report → AddsWhole before after put → IfSome o (λ all. IsWritten command all before after)
-written_of_held o seen bytes report put command before after e same within reported f added =
-    of_held o seen bytes _ e same within (λ small. record { report = report; within = small; is_reported = reported; added = subst (λ (x : List ℕ). AddsWhole before after x) f added })
+-- ---- nor is there one where it is written
 
-pub cut_of_held : (o : Option (List ℕ)) (seen bytes report put : List ℕ) (command : Command) (before after : Option Written) → seen ≡ bytes → IfSome o (λ all. bytes ≡ all) → length bytes ≤ most_bytes
-    → IsReported command seen report → put ≡ report → AddsFront before after put → IfSome o (λ all. IsCutShort command all before after)
-cut_of_held o seen bytes report put command before after e same within reported f front =
-    of_held o seen bytes _ e same within (λ small. record { report = report; within = small; is_reported = reported; prefix = subst (λ (x : List ℕ). AddsFront before after x) f front })
+no_cause : {cause : Type 0} (is : Status) → statuses.Ok ≢ is → ComesWhere cause is statuses.Ok → cause → ⊥
+no_cause is other comes h = elim (comes.always h) [ inl e ↦ absurd (other e) | inr up ↦ elim up [ inl e ↦ absurd (cc) | inr e ↦ absurd (cc) ] ]
+
+cut_caused : (meaning : Meaning) (inputs : Inputs) → IsCaused meaning inputs statuses.Ok → IsCaused meaning inputs statuses.WriteFault
+cut_caused meaning inputs caused = record {
+  too_large = λ what. never _ _ (λ e. cc) (no_cause _ (λ e. cc) (caused.too_large what));
+  bad_input = λ line. never _ _ (λ e. cc) (no_cause _ (λ e. cc) (caused.bad_input line));
+  spent = never _ _ (λ e. cc) (no_cause _ (λ e. cc) caused.spent);
+}
+
+written_caused : (meaning : Meaning) (inputs : Inputs) (status : Status) → writes status ≡ true → IsCaused meaning inputs statuses.Ok → IsCaused meaning inputs status
+written_caused meaning inputs statuses.Ok w caused = caused
+written_caused meaning inputs statuses.WriteFault w caused = cut_caused meaning inputs caused
+written_caused meaning inputs statuses.Usage w caused = absurd (cc)
+written_caused meaning inputs (statuses.BadInput line) w caused = absurd (cc)
+written_caused meaning inputs statuses.ReadFault w caused = absurd (cc)
+written_caused meaning inputs statuses.NoMemory w caused = absurd (cc)
+written_caused meaning inputs (statuses.TooLarge what) w caused = absurd (cc)
+written_caused meaning inputs statuses.Spent w caused = absurd (cc)
+written_caused meaning inputs statuses.Kept w caused = absurd (cc)
+written_caused meaning inputs (statuses.BadTable why) w caused = absurd (cc)
+
+pub written_by_held : (meaning : Meaning) (held : Option Inputs) (status : Status) → writes status ≡ true → IfSome held (λ inputs. IsCaused meaning inputs statuses.Ok)
+    → IfSome held (λ inputs. IsCaused meaning inputs status)
+written_by_held meaning None status w caused = tt
+written_by_held meaning (Some inputs) status w caused = written_caused meaning inputs status w caused
+
+-- ---- what is told, whatever the files tell
+
+line_told : (command : Command) (inputs : Inputs) (line : ℕ) → (meaning_by command).malformed inputs line → (meaning_by command).lines line
+line_told Flow inputs line m = m.0
+line_told Classify inputs line m = m.is_first.from_one
+
+run_on_told : (command : Command) (inputs : Inputs) → (meaning_by command).unfinished inputs → (meaning_by command).runs_on
+run_on_told Flow inputs u = tt
+run_on_told Classify inputs u = u
+
+pub fault_told : (command : Command) (inputs : Inputs) (fault : RunFault) → Answers (meaning_by command) inputs (Err fault) → IsAnswer (meaning_by command) (status_of_fault fault)
+fault_told command inputs (BadInput line) answers = line_told command inputs line ((answers.malformed line).only refl)
+fault_told command inputs Spent answers = run_on_told command inputs (answers.unfinished.only refl)
+fault_told command inputs NoMemory answers = tt

@@ -1,0 +1,7 @@
+use Rattle.galois_run.specs.Inputs.{inputs_in}
+use Rattle.galois_run.proofs.meanings.FlowAnswers.{flow_answers}
+use Rattle.galois_run.proofs.commands.flow.report_flow.Goals as goal
+
+pub returns : goal.returns
+returns c =
+    flow_answers (inputs_in c.args.inputs.now) c.main.result.now c.flow_text.result c.main.ensures c.flow_text.ensures.reported c.flow_text.ensures.malformed c.flow_text.ensures.unfinished

@@ -1,0 +1,3 @@
+pub mod FlowRuns
+pub mod FlowAnswers
+pub mod ClassifyAnswers

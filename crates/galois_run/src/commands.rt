@@ -1,0 +1,30 @@
+//! The commands, each in a file of its own: from the inputs to the bytes of a report.
+
+pub mod classify;
+pub mod flow;
+
+ghost use Rattle.galois_run.specs.CommandMeanings.{meaning_of};
+ghost use Rattle.galois_run.specs.Inputs.{inputs_in};
+ghost use Rattle.galois_run.specs.RunFaults.{Answers};
+ghost use Rattle.galois_run.specs.Words.{planned};
+
+use crate::inputs::InputFiles;
+use crate::run_faults::RunFault;
+use crate::words::{Command, Plan};
+use classify::report_classes;
+use flow::report_flow;
+use std::alloc::Global;
+
+/// The planned command's report on the inputs.
+pub(crate) fn report_of(
+    alloc: Global,
+    plan: &Plan,
+    inputs: &InputFiles,
+) -> Result<Vec<u8>, RunFault>
+    ensures { Answers (meaning_of (planned plan.now)) (inputs_in inputs.now) result }
+{
+    match plan.command() {
+        Command::Flow => report_flow(alloc, inputs),
+        Command::Classify => report_classes(alloc, inputs),
+    }
+}

@@ -1,0 +1,43 @@
+//! The files that a plan names, read whole.
+
+ghost use Rattle.std.specs.Prelude.{◌≡◌, ◌≢◌, Err, IfSome, IfOk, IsErrOf};
+ghost use Rattle.gx_io.specs.Faults.{Counts};
+ghost use Rattle.galois_run.specs.Inputs.{main_of, inputs_in, inputs_of, AreWithin, HasTooLong};
+ghost use Rattle.galois_run.specs.Words.{planned};
+
+use crate::words::Plan;
+use gx_io::{Files, WholeRefuse, read_whole};
+use std::alloc::Global;
+
+/// How many bytes a file may have.
+const MOST_BYTES: u64 = 67_108_864;
+
+/// The bytes of a plan's files.
+#[derive(Drop)]
+pub(crate) struct InputFiles {
+    main: Vec<u8>,
+}
+
+impl InputFiles {
+    pub(crate) fn main(&self) -> &[u8]
+        ensures { result.now ≡ main_of (inputs_in self.now) }
+    {
+        &self.main
+    }
+}
+
+/// Reads the files that a plan names.
+pub(crate) fn read_inputs<F: Files>(
+    alloc: Global,
+    plan: &Plan,
+    files: &mut F,
+) -> Result<InputFiles, WholeRefuse>
+    ensures whole { IfOk result (λ read. IfSome (inputs_of (planned plan.now) (F.holds files.old)) (λ inputs. inputs_in read ≡ inputs)) }
+    ensures within { IfOk result (λ read. AreWithin (inputs_in read)) }
+    ensures too_long { IsErrOf result WholeRefuse.TooLong → IfSome (inputs_of (planned plan.now) (F.holds files.old)) HasTooLong }
+    ensures holds { F.holds files.new ≡ F.holds files.old }
+    ensures counts { Counts (F.faults files.old) (F.faults files.new) (result ≡ Err WholeRefuse.Failed) (result ≢ Err WholeRefuse.Failed) }
+{
+    let main = read_whole(alloc, files, plan.file(), MOST_BYTES)?;
+    Ok(InputFiles { main })
+}
