@@ -3,7 +3,7 @@ use Rattle.std.specs.Prelude.{◌≡◌, ◌≢◌, ℕ, ◌≤◌, Some, List, 
 use Rattle.gx_base.specs.declared.acts.Commit.{Commit as Counted}
 use Rattle.gx_base.specs.declared.items.Item.{Item}
 use Rattle.gx_base.specs.States.{State}
-use Rattle.gx_base.specs.Plans.{Plan, Operator}
+use Rattle.gx_base.specs.Plans.{Operator}
 use Rattle.gx_base.specs.Outcomes.{Outcome, Commit}
 use Rattle.gx_base.specs.SerialIterations.{Ended, serial, least_first}
 use Rattle.gx_base.specs.SerialRuns.{IsSerialRun, IsLeastFirst, IsByOneWorker, all_counted}

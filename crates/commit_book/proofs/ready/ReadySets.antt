@@ -1,6 +1,6 @@
 -- A ready set is kept as std's ordered set of its items, and its first item is the least.
 use Rattle.std.specs.Prelude.{◌≡◌, ℕ, suc, ◌+◌, ◌<◌, length, Bool, true, false, not, ◌&&◌, ◌||◌, if◌then◌else◌, Option, Some, None, IfSome, List, [], ◌∷◌, ◌++◌, take, ℤ, slice_index_or, refl}
-use Rattle.std.proofs.Common.{sym, ◌∙◌, ap, subst, arith, cond}
+use Rattle.std.proofs.Common.{sym, ◌∙◌, ap, arith, cond}
 use Rattle.std.proofs.lemmas.List.{take_more}
 use Rattle.std.specs.Ordering.{is_eq, is_lt, is_gt, int_cmp, ordering_then, ordering_reverse, match_ordering}
 use Rattle.std.specs.declared.cmp.Ordering.{Ordering}

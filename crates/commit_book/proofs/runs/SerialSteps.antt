@@ -1,17 +1,17 @@
 -- A run that takes the least ready item at each turn, one commit at a time.
-use Rattle.std.specs.Prelude.{◌≡◌, ℕ, ◌+◌, ◌≤◌, Bool, true, false, not, ◌&&◌, ◌||◌, if◌then◌else◌, Some, None, List, [], ◌∷◌, ◌++◌, length, refl}
-use Rattle.std.proofs.Common.{sym, ◌∙◌, ap, subst, arith}
+use Rattle.std.specs.Prelude.{◌≡◌, ℕ, ◌+◌, Bool, true, false, not, ◌&&◌, ◌||◌, if◌then◌else◌, Some, None, List, [], ◌∷◌, ◌++◌, length, refl}
+use Rattle.std.proofs.Common.{sym, ◌∙◌, ap, arith}
 use Rattle.std.proofs.lemmas.List.{map-append, length-map}
 use Rattle.gx_base.specs.declared.acts.Commit.{Commit as Counted}
 use Rattle.gx_base.specs.declared.items.Item.{Item}
 use Rattle.gx_base.specs.States.{State}
 use Rattle.gx_base.specs.Plans.{Operator}
-use Rattle.gx_base.specs.Outcomes.{Outcome, Commit, order_of}
+use Rattle.gx_base.specs.Outcomes.{Outcome, Commit}
 use Rattle.gx_base.specs.Worklists.{has_item, is_least}
-use Rattle.gx_base.specs.SerialIterations.{body, Ended, may_commit, ready_after, with_first, serial, least_first}
-use Rattle.gx_base.specs.SerialRuns.{IsSerialRun, IsSerialRunInTwo, AreNumberedBy, counted, all_counted}
+use Rattle.gx_base.specs.SerialIterations.{body, may_commit, ready_after, with_first, serial, least_first}
+use Rattle.gx_base.specs.SerialRuns.{IsSerialRun, IsSerialRunInTwo, AreNumberedBy, counted}
 use Rattle.gx_base.proofs.CallerLemmas.{IsSerialRun-append}
-use Rattle.commit_book.specs.SerialRuns.{most_commits, IsLeastFirstRun, IsWholeRun, IsUnfinished}
+use Rattle.commit_book.specs.SerialRuns.{most_commits, IsLeastFirstRun, IsUnfinished}
 
 -- these commits are a run so far, with these items ready after them and these states
 pub record IsRunSoFar (op : Operator) (before : ℕ → State) (ready : List Item) (told : List Counted) (left : List Item) (now : ℕ → State) : Type 0 where

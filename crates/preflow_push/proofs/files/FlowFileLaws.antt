@@ -1,6 +1,5 @@
 -- What is read is the one network that a flow file spells.
 use Rattle.std.proofs.Common.{◌≡◌, ℕ, ◌<◌, ℤ, List, [], ◌∷◌, ◌++◌, length, map, All, refl, sym, ap, subst, ◌∙◌, arith}
-use Rattle.std.proofs.lemmas.List.{append-nil}
 use Rattle.std.proofs.lemmas.List.Elements.{All-head, All-tail}
 use Rattle.preflow_push.specs.declared.network.Arc.{Arc}
 use Rattle.preflow_push.specs.declared.flow_lines.Said.{Said}

@@ -1,5 +1,5 @@
 -- How a body moves from stage to stage.
-use Rattle.std.proofs.Common.{◌≡◌, ℕ, ◌+◌, ◌<◌, ◌≤◌, ℤ, pos, negsuc, Bool, true, false, if◌then◌else◌, int_le, Option, Some, None, List, [], ◌∷◌, length, drop, get_or, slice_get, add-one, ⊎_elim, refl, sym, ap, ◌∙◌, subst, arith}
+use Rattle.std.proofs.Common.{◌≡◌, ℕ, ◌+◌, ◌<◌, ℤ, pos, negsuc, Bool, true, false, int_le, Option, Some, None, List, [], ◌∷◌, length, drop, get_or, slice_get, add-one, ⊎_elim, refl, sym, ap, ◌∙◌, subst, arith}
 use Rattle.std.specs.Int.{w64, int_min, int_wrapping_add, int_wrapping_sub}
 use Rattle.std.proofs.Math.Nat.{mod-lt}
 use Rattle.std.proofs.Math.Seq.{drop-cons}
@@ -9,7 +9,7 @@ use Rattle.gx_base.specs.declared.calls.Call.{Call as CallOf}
 use Rattle.gx_base.specs.declared.calls.Reply.{Reply}
 use Rattle.gx_base.specs.declared.acts.Act.{Act}
 use Rattle.gx_base.specs.declared.acts.Act.TheVariants as acts
-use Rattle.gx_base.specs.Plans.{Plan, Call, Done}
+use Rattle.gx_base.specs.Plans.{Plan, Call}
 use Rattle.commit_book.proofs.CallerLemmas.{moves_by_call, moves_to_end, moves_within, moves_if_true, moves_if_false}
 use Rattle.preflow_push.specs.declared.touches.Touch.{Touch}
 use Rattle.preflow_push.specs.declared.stages.Walk.{Walk}
