@@ -7,7 +7,7 @@ use std::alloc::{AllocError, Global};
 /// What the program is asked to do.
 #[derive(Clone, Copy, Debug, PartialEq, Eq, Drop)]
 pub enum Command {
-    /// Runs the maximum flow program on a file.
+    /// Runs preflow-push on the network of a file.
     Flow,
     /// Tells the classes of a table's rows.
     Classify,

@@ -82,6 +82,7 @@ impl MemFiles {
         ensures started { IsStarted self.new }
         ensures count { result ≤ length piece.new }
         ensures gives { IfSome (left_of self.old) (λ was. Gives was (left_of self.new) piece.new result) }
+        ensures whole { IfSome (left_of self.old) (λ was. result ≡ min (length piece.new) (length was)) }
         ensures end { IfSome (left_of self.old) (λ was. 0 < length piece.new → ((result ≡ 0) ↔ (was ≡ []))) }
     {
         let n = give_from(&self.files, self.started, self.at, piece);
@@ -126,6 +127,7 @@ impl Files for MemFiles {
         requires { IsStarted self.old }
         ensures exactly { IsOk result ↔ (¬ FailsNext (schedule_of self.old)) }
         ensures only { OnErr result (IsErrOf result IoFault.Failed) }
+        ensures whole { IfOk result (λ n. IfSome (left_of self.old) (λ was. n ≡ min (length piece.new) (length was))) }
         ensures schedule { schedule_of self.new ≡ after_call (schedule_of self.old) }
 
         // What every `Files` says.
@@ -183,6 +185,7 @@ fn give_from(
     ensures room { at + result < 2 ^ 64 }
     ensures count { result ≤ length piece.new }
     ensures gives { IfSome (rest_of files.now started at) (λ was. Gives was (rest_of files.now started (at + result)) piece.new result) }
+    ensures whole { IfSome (rest_of files.now started at) (λ was. result ≡ min (length piece.new) (length was)) }
     ensures end { IfSome (rest_of files.now started at) (λ was. 0 < length piece.new → ((result ≡ 0) ↔ (was ≡ []))) }
 {
     match started {

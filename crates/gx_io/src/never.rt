@@ -1,6 +1,6 @@
 //! Files and a sink in memory that never fail.
 
-ghost use Rattle.std.specs.Prelude.{◌≡◌, ◌↔◌, ◌≤◌, ◌<◌, [], None, length, true, IsOk, IfOk, IfSome};
+ghost use Rattle.std.specs.Prelude.{◌≡◌, ◌↔◌, ◌≤◌, ◌<◌, [], None, length, min, true, IsOk, IfOk, IfSome};
 
 use crate::fault::{IoFault, SinkFailed};
 use crate::files::Files;
@@ -58,6 +58,7 @@ impl Files for NeverFails<MemFiles> {
         ensures holds { file_or_nothing self.new ≡ file_or_nothing self.old }
         ensures count { IfOk result (λ n. n ≤ length piece.new) }
         ensures gives { IfOk result (λ n. IfSome (left_of (within_of self.old)) (λ was. Gives was (left_of (within_of self.new)) piece.new n)) }
+        ensures whole { IfOk result (λ n. IfSome (left_of (within_of self.old)) (λ was. n ≡ min (length piece.new) (length was))) }
         ensures end { IfOk result (λ n. IfSome (left_of (within_of self.old)) (λ was. 0 < length piece.new → ((n ≡ 0) ↔ (was ≡ [])))) }
         ensures stays_started { IsStarted (within_of self.new) }
     {

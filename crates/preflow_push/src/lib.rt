@@ -1,5 +1,8 @@
-//! Maximum flow by preflow-push: the network and the file that it is read from, the work done for a node, where
-//! it starts, and the report.
+//! Preflow-push on a network: the file that the network is read from, the work done for a node, where it starts, and
+//! the report.
+//!
+//! `read_max` gives a `Network`, `start` the shards and the items that are ready, `Discharge` is the operator that a
+//! runner is given with them, and `report` writes what it left.
 //!
 //! `specs/Networks.antt` has what a network is, `specs/FlowFiles.antt` which bytes are a flow file and of which
 //! network, and `specs/Discharge.antt` what is done for a node.

@@ -15,27 +15,89 @@ use gx_base::{Choice, Kind, SeqType, Table};
 use std::alloc::Global;
 use std::test::Fail;
 
-const APART_SET: &str =
-    "type set\nadd add : a1 != a2\nadd remove : a1 != a2\nadd contains : a1 != a2\nremove add : a1 != a2\nremove remove : a1 != a2\nremove contains : a1 != a2\ncontains add : a1 != a2\ncontains remove : a1 != a2\ncontains contains : true\n";
+const APART_SET: &str = "type set
+add add : a1 != a2
+add remove : a1 != a2
+add contains : a1 != a2
+remove add : a1 != a2
+remove remove : a1 != a2
+remove contains : a1 != a2
+contains add : a1 != a2
+contains remove : a1 != a2
+contains contains : true
+";
 
-const APART_SET_ROWS: &str =
-    "row add add SIMPLE a1 != a2\nrow add remove SIMPLE a1 != a2\nrow add contains SIMPLE a1 != a2\nrow remove add SIMPLE a1 != a2\nrow remove remove SIMPLE a1 != a2\nrow remove contains SIMPLE a1 != a2\nrow contains add SIMPLE a1 != a2\nrow contains remove SIMPLE a1 != a2\nrow contains contains SIMPLE true\n";
+const APART_SET_ROWS: &str = "row add add SIMPLE a1 != a2
+row add remove SIMPLE a1 != a2
+row add contains SIMPLE a1 != a2
+row remove add SIMPLE a1 != a2
+row remove remove SIMPLE a1 != a2
+row remove contains SIMPLE a1 != a2
+row contains add SIMPLE a1 != a2
+row contains remove SIMPLE a1 != a2
+row contains contains SIMPLE true
+";
 
-const EMPTY_SET_ROWS: &str =
-    "row add add SIMPLE false\nrow add remove SIMPLE false\nrow add contains SIMPLE false\nrow remove add SIMPLE false\nrow remove remove SIMPLE false\nrow remove contains SIMPLE false\nrow contains add SIMPLE false\nrow contains remove SIMPLE false\nrow contains contains SIMPLE false\n";
+const EMPTY_SET_ROWS: &str = "row add add SIMPLE false
+row add remove SIMPLE false
+row add contains SIMPLE false
+row remove add SIMPLE false
+row remove remove SIMPLE false
+row remove contains SIMPLE false
+row contains add SIMPLE false
+row contains remove SIMPLE false
+row contains contains SIMPLE false
+";
 
-const DOMAINS: &str =
-    "type domains\ncredit credit : true\nweigh sum : b1 = 0 or dom1 != a2\nweigh total : b1 = 0 or dom1 != dom2\n";
+const DOMAINS: &str = "type domains
+credit credit : true
+weigh sum : b1 = 0 or dom1 != a2
+weigh total : b1 = 0 or dom1 != dom2
+";
 
-const DOMAINS_ROWS: &str =
-    "row weigh weigh SIMPLE false\nrow weigh total GENERAL b1 = 0 or dom1 != dom2\nrow weigh move SIMPLE false\nrow weigh credit SIMPLE false\nrow weigh sum ONLINE b1 = 0 or dom1 != a2\nrow total weigh SIMPLE false\nrow total total SIMPLE false\nrow total move SIMPLE false\nrow total credit SIMPLE false\nrow total sum SIMPLE false\nrow move weigh SIMPLE false\nrow move total SIMPLE false\nrow move move SIMPLE false\nrow move credit SIMPLE false\nrow move sum SIMPLE false\nrow credit weigh SIMPLE false\nrow credit total SIMPLE false\nrow credit move SIMPLE false\nrow credit credit SIMPLE true\nrow credit sum SIMPLE false\nrow sum weigh SIMPLE false\nrow sum total SIMPLE false\nrow sum move SIMPLE false\nrow sum credit SIMPLE false\nrow sum sum SIMPLE false\n";
+const DOMAINS_ROWS: &str = "row weigh weigh SIMPLE false
+row weigh total GENERAL b1 = 0 or dom1 != dom2
+row weigh move SIMPLE false
+row weigh credit SIMPLE false
+row weigh sum ONLINE b1 = 0 or dom1 != a2
+row total weigh SIMPLE false
+row total total SIMPLE false
+row total move SIMPLE false
+row total credit SIMPLE false
+row total sum SIMPLE false
+row move weigh SIMPLE false
+row move total SIMPLE false
+row move move SIMPLE false
+row move credit SIMPLE false
+row move sum SIMPLE false
+row credit weigh SIMPLE false
+row credit total SIMPLE false
+row credit move SIMPLE false
+row credit credit SIMPLE true
+row credit sum SIMPLE false
+row sum weigh SIMPLE false
+row sum total SIMPLE false
+row sum move SIMPLE false
+row sum credit SIMPLE false
+row sum sum SIMPLE false
+";
 
-const PRECISE_SET: &str =
-    "type set\nadd add : a1 != a2 or (p1 = 0 and p2 = 0)\nadd remove : a1 != a2\nadd contains : a1 != a2 or p1 = 0\nremove add : a1 != a2\nremove remove : a1 != a2 or (p1 = 0 and p2 = 0)\nremove contains : a1 != a2 or p1 = 0\ncontains add : a1 != a2 or p2 = 0\ncontains remove : a1 != a2 or p2 = 0\ncontains contains : true\n";
+const PRECISE_SET: &str = "type set
+add add : a1 != a2 or (p1 = 0 and p2 = 0)
+add remove : a1 != a2
+add contains : a1 != a2 or p1 = 0
+remove add : a1 != a2
+remove remove : a1 != a2 or (p1 = 0 and p2 = 0)
+remove contains : a1 != a2 or p1 = 0
+contains add : a1 != a2 or p2 = 0
+contains remove : a1 != a2 or p2 = 0
+contains contains : true
+";
 
 /// A row with 65 open parentheses.
-const DEEP: &str =
-    "type set\nadd add : (((((((((((((((((((((((((((((((((((((((((((((((((((((((((((((((((true)))))))))))))))))))))))))))))))))))))))))))))))))))))))))))))))))\n";
+const DEEP: &str = "type set
+add add : (((((((((((((((((((((((((((((((((((((((((((((((((((((((((((((((((true)))))))))))))))))))))))))))))))))))))))))))))))))))))))))))))))))
+";
 
 /// Whether `classify` on this text ends well and writes this report.
 fn classifies(alloc: Global, text: &str, report: &str) -> Result<bool, Fail> {

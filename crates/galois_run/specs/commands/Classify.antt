@@ -2,7 +2,6 @@
 use Rattle.std.specs.Prelude.{◌≡◌, ℕ, ◌≤◌, List, [], ◌∷◌, codes}
 use Rattle.std.specs.List.{flat_map}
 use Rattle.gx_base.specs.declared.kinds.Kind.{Kind}
-use Rattle.gx_base.specs.declared.kinds.Kind.TheVariants.{Set, Cells, Flow, Points, Domains}
 use Rattle.gx_base.specs.Conditions.{Condition}
 use Rattle.gx_base.specs.Kinds.{kind_number}
 use Rattle.gx_base.specs.Methods.{methods_of, word_of}
@@ -12,14 +11,10 @@ use Rattle.cond_lattice.specs.declared.grades.Grade.{Grade}
 use Rattle.cond_lattice.specs.declared.grades.Grade.TheVariants.{Simple, Online, General}
 use Rattle.cond_lattice.specs.Grades.{grade_of}
 use Rattle.cond_syntax.specs.Printing.{condition_text}
-use Rattle.cond_syntax.specs.TableTexts.{Fault, IsTableText, IsFirstFault}
+use Rattle.cond_syntax.specs.TableTexts.{all_kinds, Fault, IsTableText, IsFirstFault}
 use Rattle.line_writer.specs.Lines.{line}
 use Rattle.galois_run.specs.Inputs.{main_of, PassesFileLimit, IsFileLimit}
 use Rattle.galois_run.specs.Meanings.{Meaning}
-
--- a table of any kind is read
-abbrev pub all_kinds : List Kind
-all_kinds = Set ∷ Cells ∷ Flow ∷ Points ∷ Domains ∷ []
 
 -- the word of a class
 abbrev pub class_text : Grade → List ℕ
@@ -54,7 +49,7 @@ pub record IsFaultyTable (wanted : List Kind) (bytes : List ℕ) (line : ℕ) : 
   pub fault : Fault
   pub is_first : IsFirstFault wanted bytes line fault
 
--- lines are counted from 1, and nothing runs on
+-- a table of any kind is wanted; lines are counted from 1, and nothing runs on
 abbrev pub classify_meaning : Meaning
 classify_meaning = record {
   reported = λ inputs report. IsClassReport all_kinds (main_of inputs) report;

@@ -4,7 +4,8 @@ ghost use Rattle.std.specs.Prelude.{◌≡◌, ℕ, Err, IfOk, OnOk, [], ◌∷�
 ghost use Rattle.gx_base.specs.Conditions.{condition_of};
 ghost use Rattle.gx_base.specs.TableRows.{row_of};
 ghost use Rattle.galois_run.specs.Inputs.{inputs_in};
-ghost use Rattle.galois_run.specs.commands.Classify.{all_kinds, class_text, pair_line, first_lines, classify_text, IsClassReport, IsFaultyTable, classify_meaning};
+ghost use Rattle.cond_syntax.specs.TableTexts.{all_kinds};
+ghost use Rattle.galois_run.specs.commands.Classify.{class_text, pair_line, first_lines, classify_text, IsClassReport, IsFaultyTable, classify_meaning};
 ghost use Rattle.line_writer.specs.Lines.{line};
 ghost use Rattle.galois_run.specs.RunFaults.{fault_of_text, FaultsWhere, Answers};
 ghost use Rattle.galois_run.specs.declared.run_faults.RunFault.TheVariants as faults;

@@ -1,4 +1,4 @@
-use Rattle.galois_run.specs.commands.Classify.{all_kinds}
+use Rattle.cond_syntax.specs.TableTexts.{all_kinds}
 use Rattle.galois_run.proofs.meanings.ClassifyAnswers.{text_refused, text_reported, class_report}
 use Rattle.galois_run.proofs.commands.classify.classify_bytes.Goals as goal
 
