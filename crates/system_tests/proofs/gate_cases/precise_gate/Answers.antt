@@ -2,5 +2,5 @@ use Rattle.gx_base.specs.declared.kinds.Kind.TheVariants.{Flow}
 use Rattle.gx_base.specs.declared.kinds.Choice.TheVariants.{Precise}
 use Rattle.system_tests.proofs.gate_cases.precise_gate.Goals as goal
 
-pub new-requires-clause-valid : goal.new-requires-clause-valid
-new-requires-clause-valid c = c.shipped_tables_serve_gates.ensures.valid Flow Precise c.in_ok-table.table c.in_ok-table.ensures
+pub new-requires-2-clause-valid : goal.new-requires-2-clause-valid
+new-requires-2-clause-valid c = c.shipped_tables_serve_gates.ensures.valid Flow Precise c.in_ok-table.table c.in_ok-table.ensures
