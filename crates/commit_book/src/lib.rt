@@ -3,12 +3,12 @@
 #![tactic(auto)]
 
 mod operator;
-mod outcome;
+mod body_log;
 mod serial;
 mod worklist;
 
 pub use gx_base::{Act, Commit, Step};
 pub use operator::Operator;
-pub use outcome::Outcome;
+pub use body_log::BodyLog;
 pub use serial::{MOST_COMMITS, SerialStop, commit_item, order_is_determined, run_serially};
 pub use worklist::Worklist;

@@ -5,7 +5,7 @@ use Rattle.std.proofs.Common.{sym, subst}
 use Rattle.std.specs.Ordering.{int_cmp}
 use Rattle.std.specs.FinMap as map
 use Rattle.gx_base.specs.States.{row_cmp, IsNumberRow}
-use Rattle.number_rows.specs.Rows.{number_in, rows_onto}
+use Rattle.number_rows.specs.NumbersAsRows.{number_in, rows_onto}
 use Rattle.number_rows.proofs.CallerLemmas.{HoldNumbers, HoldNumbers-rows_onto}
 
 -- numbers by key

@@ -5,7 +5,7 @@
 //! calls that a test chooses; `NeverFails` round one of these answers no failure.
 #![tactic(auto)]
 
-mod calls;
+mod numbered_calls;
 mod fault;
 mod files;
 mod memory_files;

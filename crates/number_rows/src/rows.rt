@@ -24,7 +24,7 @@ impl NumberRows {
     ghost use Rattle.std.specs.List.{IsDistinct};
     ghost use Rattle.std.specs.Map.{keys_of};
     ghost use Rattle.std.specs.Ordering.{int_eq};
-    ghost use Rattle.number_rows.specs.Rows.{number_in};
+    ghost use Rattle.number_rows.specs.NumbersAsRows.{number_in};
     ghost use Rattle.number_rows.specs.NumberRows.{rows_of, dead_rows, IsLean};
 
     /// No rows: each number is 0.

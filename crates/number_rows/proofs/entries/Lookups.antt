@@ -7,7 +7,7 @@ use Rattle.std.specs.Cmp.{int_cmp_total, int_eq_equiv}
 use Rattle.std.specs.Map.{lookup}
 use Rattle.std.specs.FinMap as map
 use Rattle.number_rows.specs.Entries.{FitAll}
-use Rattle.number_rows.specs.Rows.{number_in}
+use Rattle.number_rows.specs.NumbersAsRows.{number_in}
 use Rattle.number_rows.specs.declared.rows.NumberRows.{NumberRows}
 use Rattle.number_rows.specs.NumberRows.{rows_of}
 

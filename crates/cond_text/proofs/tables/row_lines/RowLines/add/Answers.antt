@@ -1,7 +1,7 @@
 use Rattle.std.proofs.Common.{◌≡◌, [], ◌∷◌, ◌++◌, arith}
 use Rattle.std.proofs.lemmas.Grind.{common_steps}
 use Rattle.cond_text.proofs.texts.PairLemmas.{one_placed}
-use Rattle.cond_text.proofs.tables.rows.Rows.add.Goals as goal
+use Rattle.cond_text.proofs.tables.row_lines.RowLines.add.Goals as goal
 
 pub invariant_of-self-2 : goal.invariant_of-self-2
 invariant_of-self-2 c =

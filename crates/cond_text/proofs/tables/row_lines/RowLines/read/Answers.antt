@@ -3,7 +3,7 @@ use Rattle.cond_syntax.specs.Tokens.{tokens_of}
 use Rattle.cond_text.specs.Found.{IsFound}
 use Rattle.cond_text.specs.declared.conditions.Found.TheVariants.{Malformed, UnknownWord, TooDeep, Known}
 use Rattle.cond_text.proofs.texts.RowFaults.{malformed_row, unknown_methods, unknown_words, too_deep_row, no_place, next_row}
-use Rattle.cond_text.proofs.tables.rows.Rows.read.Goals as goal
+use Rattle.cond_text.proofs.tables.row_lines.RowLines.read.Goals as goal
 
 pub returns-in_err-methods_named-in-UnknownWord-clause-fault : goal.returns-in_err-methods_named-in-UnknownWord-clause-fault
 returns-in_err-methods_named-in-UnknownWord-clause-fault c =

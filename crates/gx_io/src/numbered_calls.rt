@@ -6,18 +6,18 @@ ghost use Rattle.gx_io.specs.Schedules.{schedule, FailsNext, after_call};
 
 /// How many calls were made, which ones are to fail, and how many faults there were.
 #[derive(Drop)]
-pub(crate) struct Calls {
+pub(crate) struct NumberedCalls {
     failing: Vec<u64>,
     made: u64,
     faults: u64,
 }
 
-impl Calls {
+impl NumberedCalls {
     /// No call was made yet; those with these numbers, from 0, are to fail.
-    pub(crate) fn new(failing: Vec<u64>) -> Calls
+    pub(crate) fn new(failing: Vec<u64>) -> NumberedCalls
         ensures { result ≡ record { failing = failing; made = 0; faults = 0 } }
     {
-        Calls {
+        NumberedCalls {
             failing,
             made: 0,
             faults: 0,

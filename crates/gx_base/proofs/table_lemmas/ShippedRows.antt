@@ -1,4 +1,4 @@
--- What an object ships serves a gate of its kind.
+-- What an object ships is valid for its kind, and false for methods of other kinds.
 use Rattle.std.specs.Prelude.{◌≡◌, ℕ, Bool, true, false, IsTrue, refl}
 use Rattle.std.proofs.Common.{sym, subst}
 use Rattle.gx_base.specs.declared.kinds.Choice.{Choice}

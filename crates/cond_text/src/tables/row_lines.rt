@@ -15,14 +15,14 @@ use std::alloc::Global;
 /// The rows that have been read. A table lends `false` for a pair without a row, so the pairs that have one stand
 /// beside it.
 #[derive(Drop)]
-pub(super) struct Rows {
+pub(super) struct RowLines {
     pub(super) kind: Kind,
     pub(super) table: Table,
     placed: Vec<(u32, u32)>,
     ghost tied: { (first second : ℕ) → has_pair placed.items first second ≡ is_some (map.get table (first, second)) },
 }
 
-impl Rows {
+impl RowLines {
     ghost use Rattle.std.specs.Prelude.{List, false, None, OnOk};
     ghost use Rattle.gx_base.specs.declared.kinds.Kind as kinds;
     ghost use Rattle.gx_base.specs.Conditions.{condition_of};
@@ -32,11 +32,11 @@ impl Rows {
     ghost use Rattle.cond_text.specs.LineAnswers.{IsRefused, IsNoPlace};
 
     /// No rows of a kind's table.
-    pub(super) fn new(alloc: Global, kind: Kind) -> Rows
+    pub(super) fn new(alloc: Global, kind: Kind) -> RowLines
         ensures kind { result.kind ≡ kind }
         ensures none { result.table ≡ map.empty }
     {
-        Rows {
+        RowLines {
             kind,
             table: Table::blank(alloc),
             placed: Vec::new(alloc),

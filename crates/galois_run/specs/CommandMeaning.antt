@@ -3,7 +3,7 @@ use Rattle.std.specs.Prelude.{ℕ, List}
 use Rattle.gx_base.specs.declared.inputs.What.{What}
 use Rattle.galois_run.specs.Inputs.{Inputs}
 
-pub record Meaning : Type 1 where
+pub record CommandMeaning : Type 1 where
   -- the inputs are of the form that the command reads, and this is its report on them
   pub reported : Inputs → List ℕ → Type 0
   -- they are not of that form, and this line is told

@@ -7,17 +7,17 @@ use std::alloc::Global;
 
 /// What the body of an item did: its steps and its pushes, each in their order.
 #[derive(Debug, Drop)]
-pub struct Outcome {
+pub struct BodyLog {
     pub steps: Vec<Step>,
     pub pushes: Vec<Item>,
 }
 
-impl Outcome {
+impl BodyLog {
     /// That of a body which does nothing. It takes no memory.
-    pub fn new(alloc: Global) -> Outcome
+    pub fn new(alloc: Global) -> BodyLog
         ensures { outcome_of result ≡ nothing_done }
     {
-        Outcome {
+        BodyLog {
             steps: Vec::new(alloc),
             pushes: Vec::new(alloc),
         }
