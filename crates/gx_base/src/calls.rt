@@ -15,7 +15,7 @@ pub struct Call {
 
 impl Call {
     /// A call of the method with this number.
-    pub fn new(method: u32, a: i64, b: i64, c: i64, d: i64) -> Call
+    pub const fn new(method: u32, a: i64, b: i64, c: i64, d: i64) -> Call
         ensures { result ≡ record { method = method; a = a; b = b; c = c; d = d } }
     {
         Call { method, a, b, c, d }
@@ -32,7 +32,7 @@ pub struct Reply {
 }
 
 impl Reply {
-    pub fn new(p: i64, q: i64, r: i64, s: i64) -> Reply
+    pub const fn new(p: i64, q: i64, r: i64, s: i64) -> Reply
         ensures { result ≡ record { p = p; q = q; r = r; s = s } }
     {
         Reply { p, q, r, s }

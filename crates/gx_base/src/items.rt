@@ -10,7 +10,7 @@ pub struct Item {
 }
 
 impl Item {
-    pub fn new(k0: i64, k1: i64, k2: i64, k3: i64) -> Item
+    pub const fn new(k0: i64, k1: i64, k2: i64, k3: i64) -> Item
         ensures { result ≡ record { k0 = k0; k1 = k1; k2 = k2; k3 = k3 } }
     {
         Item { k0, k1, k2, k3 }
