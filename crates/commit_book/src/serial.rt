@@ -7,7 +7,7 @@ ghost use Rattle.commit_book.specs.SerialRuns.{operator_of, IsWholeRun, IsUnfini
 ghost use Rattle.commit_book.specs.declared.serial.SerialStop.TheVariants as stops;
 ghost use Rattle.std.specs.declared.result.Result.TheVariants.{Err};
 
-use crate::{Operator, BodyLog, Worklist};
+use crate::{BodyLog, Operator, Worklist};
 use gx_base::{Act, Commit, Item, NoMemory, Reply, SeqType, Step};
 use std::alloc::{AllocFailed, Global};
 

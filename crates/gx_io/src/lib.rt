@@ -5,12 +5,12 @@
 //! calls that a test chooses; `NeverFails` round one of these answers no failure.
 #![tactic(auto)]
 
-mod numbered_calls;
 mod fault;
 mod files;
 mod memory_files;
 mod memory_sink;
 mod never;
+mod numbered_calls;
 mod real;
 mod sinks;
 #[cfg(test)]

@@ -6,9 +6,9 @@ ghost use Rattle.gx_io.specs.NamedFiles.{bytes_of, bytes_at, rest_of};
 ghost use Rattle.gx_io.specs.Files.{Gives};
 ghost use Rattle.gx_io.specs.Schedules.{fresh, FailsNext, after_call};
 
-use crate::numbered_calls::NumberedCalls;
 use crate::fault::IoFault;
 use crate::files::Files;
+use crate::numbered_calls::NumberedCalls;
 
 /// Files in memory by name. NumberedCalls of `start` and `read` are numbered together from 0, and those
 /// whose numbers were chosen fail. A start of an absent name fails too.

@@ -7,8 +7,8 @@ ghost use Rattle.gx_io.specs.Schedules.{fresh, FailsNext, after_call};
 ghost use Rattle.gx_io.specs.Sinks.{Adds, Flushes};
 ghost use Rattle.gx_io.specs.declared.memory_sink.TheConstants.{ROOM};
 
-use crate::numbered_calls::NumberedCalls;
 use crate::fault::{NoMemory, SinkFailed};
+use crate::numbered_calls::NumberedCalls;
 use crate::sinks::Sink;
 use std::alloc::Global;
 
