@@ -1,6 +1,6 @@
 use Rattle.std.proofs.Common.{◌≡◌, ◌<◌, ◌^◌, drop}
 use Rattle.text_lines.specs.Numbers.{all_digits, value_from}
-use Rattle.text_lines.proofs.numbers.number.Given as goal
+use Rattle.text_lines.proofs.numbers.digits_value.Given as goal
 
 abbrev pub invariant-loop-byte : goal.invariant-loop-byte
 invariant-loop-byte l = record {

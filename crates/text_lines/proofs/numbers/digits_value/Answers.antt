@@ -1,21 +1,14 @@
 use Rattle.std.proofs.Common.{◌≡◌, ◌-◌, true, false, get_or, arith, sym, ◌∙◌}
-use Rattle.std.proofs.lemmas.Bool.{eqb-true}
 use Rattle.std.specs.Char.{is_ascii_digit}
 use Rattle.text_lines.specs.Numbers.{all_digits, value_from}
 use Rattle.std.proofs.lemmas.List.{at_drop_all}
-use Rattle.text_lines.proofs.lemmas.NumberLemmas.{no_digits, too_many, other_sign, only_digits, digits_more, digits_end, value_more, room, small_value, small_more, some_from_test, digit_small}
-use Rattle.text_lines.proofs.numbers.number.Goals as goal
-
-pub returns-then-is_empty-clause-value : goal.returns-then-is_empty-clause-value
-returns-then-is_empty-clause-value c = no_digits c.args.field.now (eqb-true _ _ (sym c.is_empty.ensures ∙ c.if-is_empty.true))
-
-pub returns-then-field-gt-MOST_DIGITS-clause-value : goal.returns-then-field-gt-MOST_DIGITS-clause-value
-returns-then-field-gt-MOST_DIGITS-clause-value c = too_many c.args.field.now c.if-field-gt-MOST_DIGITS.true
+use Rattle.text_lines.proofs.lemmas.NumberLemmas.{other_sign, only_digits, digits_more, digits_end, value_more, room, small_value, small_more, digit_small}
+use Rattle.text_lines.proofs.numbers.digits_value.Goals as goal
 
 pub returns-then-not-is_ascii_digit-clause-value : goal.returns-then-not-is_ascii_digit-clause-value
 returns-then-not-is_ascii_digit-clause-value c =
     let other : is_ascii_digit (get_or c.args.field.now c.loop-byte.byte-index 0) ≡ false = sym c.is_ascii_digit.ensures.value ∙ c.if-not-is_ascii_digit.true in
-    other_sign c.args.field.now (some_from_test c.args.field.now c.is_empty.result c.is_empty.ensures c.if-is_empty.false) c.if-field-gt-MOST_DIGITS.false (c.loop-byte.invariant.digits ∙ digits_end c.args.field.now c.loop-byte.byte-index c.loop-byte-test.true other)
+    other_sign c.args.field.now (c.loop-byte.invariant.digits ∙ digits_end c.args.field.now c.loop-byte.byte-index c.loop-byte-test.true other)
 
 pub overflow_mul-value : goal.overflow_mul-value
 overflow_mul-value c = omega (arith, room c.loop-byte.value c.loop-byte.byte-index (omega arith) c.loop-byte.invariant.small)
@@ -44,7 +37,7 @@ returns-clause-value c =
     let n = c.loop-byte.byte-index in
     let digits : all_digits field ≡ true = c.loop-byte.invariant.digits ∙ at_drop_all all_digits field n c.loop-byte-test.false in
     let value = c.loop-byte.invariant.value ∙ at_drop_all (value_from c.loop-byte.value) field n c.loop-byte-test.false in
-    rw (← value) (only_digits field (some_from_test field c.is_empty.result c.is_empty.ensures c.if-is_empty.false) c.if-field-gt-MOST_DIGITS.false digits)
+    rw (← value) (only_digits field digits)
 
 pub returns-clause-small : goal.returns-clause-small
 returns-clause-small c = small_value c.loop-byte.value c.loop-byte.byte-index (omega arith) c.loop-byte.invariant.small
