@@ -1,7 +1,7 @@
 use Rattle.std.proofs.Common.{rules, to_z, of_z, FitsSigned, w64}
 use Rattle.std.proofs.lemmas.Int.{to_z-of_z}
 use Rattle.number_rows.proofs.entries.Lookups.{found, not_found}
-use Rattle.number_rows.proofs.rows.NumberRows.value.Goals as goal
+use Rattle.number_rows.proofs.rows.NumberRows.found.Goals as goal
 
 pub returns-in-Some : goal.returns-in-Some
 returns-in-Some c =
