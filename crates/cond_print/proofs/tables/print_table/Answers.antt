@@ -3,7 +3,7 @@ use Rattle.gx_base.specs.TableRows.{row_of}
 use Rattle.cond_syntax.specs.Printing.{table_text}
 use Rattle.cond_syntax.specs.Printable.{IsReadBack}
 use Rattle.cond_syntax.proofs.CallerLemmas.{printed_table}
-use Rattle.cond_text.proofs.printing.print_table.Goals as goal
+use Rattle.cond_print.proofs.tables.print_table.Goals as goal
 
 pub returns-clause-reads_back : goal.returns-clause-reads_back
 returns-clause-reads_back c = λ printable wanted wants.

@@ -1,6 +1,6 @@
 //! Texts written by hand.
 
-use super::{print_cond, print_table};
+use crate::{print_cond, print_table};
 use gx_base::{Cond, Kind, NoMemory, Part, Side, Table, Term};
 use std::alloc::Global;
 use std::test::Fail;

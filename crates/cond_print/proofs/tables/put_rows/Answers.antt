@@ -4,8 +4,8 @@ use Rattle.gx_base.specs.Methods.{methods_of}
 use Rattle.gx_base.specs.TableRows.{row_of}
 use Rattle.gx_base.proofs.CallerLemmas.{methods_from}
 use Rattle.cond_syntax.specs.Printing.{first_lines}
-use Rattle.cond_text.proofs.methods.PrintedRows.{one_more_piece}
-use Rattle.cond_text.proofs.printing.put_rows.Goals as goal
+use Rattle.cond_print.proofs.methods.PrintedRows.{one_more_piece}
+use Rattle.cond_print.proofs.tables.put_rows.Goals as goal
 
 pub loop-first-preserved : goal.loop-first-preserved
 loop-first-preserved c =

@@ -4,7 +4,7 @@ use Rattle.cond_syntax.specs.Tokens.{tokens_of}
 use Rattle.cond_syntax.specs.TableTexts.{Spells}
 use Rattle.cond_syntax.specs.Printing.{condition_text}
 use Rattle.cond_syntax.proofs.CallerLemmas.{printed_condition}
-use Rattle.cond_text.proofs.printing.print_cond.Goals as goal
+use Rattle.cond_print.proofs.conditions.print_cond.Goals as goal
 
 pub returns-clause-reads_back : goal.returns-clause-reads_back
 returns-clause-reads_back c = λ kind printable.

@@ -4,7 +4,7 @@ use Rattle.gx_base.specs.Kinds.{kind_number}
 use Rattle.gx_base.specs.Methods.{methods_of}
 use Rattle.gx_base.specs.TableRows.{row_of}
 use Rattle.cond_syntax.specs.Printing.{row_line, first_lines}
-use Rattle.cond_text.proofs.printing.put_rows_of.Given as goal
+use Rattle.cond_print.proofs.tables.put_rows_of.Given as goal
 
 -- with the lines of the rest of the methods it comes to the whole text
 abbrev pub invariant-loop-second : goal.invariant-loop-second
