@@ -6,7 +6,6 @@ ghost use Rattle.gx_base.specs.Kinds.{kind_number};
 ghost use Rattle.gx_base.specs.Methods as methods;
 ghost use Rattle.cond_syntax.specs.Written as written;
 ghost use Rattle.cond_syntax.specs.TableTexts as texts;
-ghost use Rattle.cond_syntax.specs.TableTexts.{kind_text};
 
 use gx_base::{Kind, Part, Side, Term, method_at, word_of};
 
@@ -29,19 +28,6 @@ pub(crate) fn kind_named(word: &[u8]) -> Option<Kind>
         Some(Kind::Domains)
     } else {
         None
-    }
-}
-
-/// The word of a kind.
-pub(crate) fn kind_word(kind: Kind) -> &'static str
-    ensures { result.now ≡ kind_text kind }
-{
-    match kind {
-        Kind::Set => "set",
-        Kind::Cells => "cells",
-        Kind::Flow => "flow",
-        Kind::Points => "points",
-        Kind::Domains => "domains",
     }
 }
 

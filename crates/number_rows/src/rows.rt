@@ -41,8 +41,8 @@ impl NumberRows {
     pub fn value(&self, key: i64) -> i64
         ensures { result ≡ number_in (rows_of self.now) key }
     {
-        match self.numbers.get(&key) {
-            Some(number) => *number,
+        match self.found(key) {
+            Some(number) => number,
             None => 0,
         }
     }
@@ -51,7 +51,16 @@ impl NumberRows {
     pub fn has_row(&self, key: i64) -> bool
         ensures { result ≡ map.contains_key (rows_of self.now) key }
     {
-        self.numbers.contains_key(&key)
+        self.found(key).is_some()
+    }
+
+    fn found(&self, key: i64) -> Option<i64>
+        ensures { result ≡ map.get (rows_of self.now) key }
+    {
+        match self.numbers.get(&key) {
+            Some(number) => Some(*number),
+            None => None,
+        }
     }
 
     /// Writes a number, and makes a row for it if need be.
