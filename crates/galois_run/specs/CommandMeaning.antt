@@ -8,11 +8,11 @@ pub record CommandMeaning : Type 1 where
   pub reported : Inputs → List ℕ → Type 0
   -- they are not of that form, and this line is told
   pub malformed : Inputs → ℕ → Type 0
-  -- they pass this limit
+  -- they are of that form, and past this limit of the command's
   pub too_large : Inputs → What → Type 0
-  -- they are of that form, but what is done with them doesn't end within the commits that may be
+  -- they are of that form and within the limits, but what is done with them doesn't end within the commits that may be
   pub unfinished : Inputs → Type 0
-  -- whatever the inputs are: the lines that may be told, the limits that may be passed, and whether it may run on
+  -- whatever the inputs are: the lines that may be told, the limits that there are, and whether it may run on
   pub lines : ℕ → Type 0
   pub limits : What → Type 0
   pub runs_on : Type 0

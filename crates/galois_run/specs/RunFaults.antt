@@ -3,11 +3,14 @@ use Rattle.std.specs.Prelude.{◌≡◌, ◌⊎◌, ℕ, Result, Err, Vec, IfOk}
 use Rattle.std.specs.Global.{Global}
 use Rattle.cond_text.specs.declared.faults.TextFault.{TextFault}
 use Rattle.cond_text.specs.declared.faults.TextFault.TheVariants.{Syntax, UnknownMethod, UnknownName, Twice, TooDeep, NoMemory as NoMemoryForText}
+use Rattle.gx_base.specs.declared.inputs.What.{What}
 use Rattle.gx_base.specs.declared.inputs.What.TheVariants.{File}
+use Rattle.gx_base.specs.declared.inputs.InputFault.{InputFault}
+use Rattle.gx_base.specs.declared.inputs.InputFault.TheVariants as inputs
 use Rattle.gx_io.specs.declared.fault.WholeRefuse.{WholeRefuse}
 use Rattle.gx_io.specs.declared.fault.WholeRefuse.TheVariants as refusals
 use Rattle.galois_run.specs.declared.run_faults.RunFault.{RunFault}
-use Rattle.galois_run.specs.declared.run_faults.RunFault.TheVariants.{BadInput, Spent, NoMemory}
+use Rattle.galois_run.specs.declared.run_faults.RunFault.TheVariants.{BadInput, TooLarge, Spent, NoMemory}
 use Rattle.galois_run.specs.declared.status.Status.{Status}
 use Rattle.galois_run.specs.declared.status.Status.TheVariants as statuses
 use Rattle.galois_run.specs.Inputs.{Inputs}
@@ -22,9 +25,16 @@ fault_of_text (Twice line) = BadInput line
 fault_of_text (TooDeep line) = BadInput line
 fault_of_text NoMemoryForText = NoMemory
 
+-- what a reader of the file refuses it for
+abbrev pub fault_of_input : InputFault → RunFault
+fault_of_input (inputs.Line line) = BadInput line
+fault_of_input (inputs.Large what) = TooLarge what
+fault_of_input inputs.NoMemory = NoMemory
+
 -- the status of the same name
 abbrev pub status_of_fault : RunFault → Status
 status_of_fault (BadInput line) = statuses.BadInput line
+status_of_fault (TooLarge what) = statuses.TooLarge what
 status_of_fault Spent = statuses.Spent
 status_of_fault NoMemory = statuses.NoMemory
 
@@ -43,4 +53,5 @@ pub record FaultsWhere {A : Type 0} (cause : Type 0) (fault : RunFault) (result 
 pub record Answers (meaning : CommandMeaning) (inputs : Inputs) (result : Result (Vec ℕ Global) RunFault) : Type 0 where
   pub reported : IfOk result (λ text. meaning.reported inputs text.items)
   pub malformed : (line : ℕ) → FaultsWhere (meaning.malformed inputs line) (BadInput line) result
+  pub too_large : (what : What) → FaultsWhere (meaning.too_large inputs what) (TooLarge what) result
   pub unfinished : FaultsWhere (meaning.unfinished inputs) Spent result

@@ -5,7 +5,7 @@ use Rattle.gx_io.specs.Sinks.{Written, AddsWhole, AddsFront}
 use Rattle.gx_base.specs.declared.inputs.What.{What}
 use Rattle.galois_run.specs.declared.status.Status.{Status}
 use Rattle.galois_run.specs.declared.status.Status.TheVariants.{Ok, Usage, BadInput, ReadFault, WriteFault, NoMemory, TooLarge, Spent, Kept, BadTable}
-use Rattle.galois_run.specs.Inputs.{Inputs, AreWithin}
+use Rattle.galois_run.specs.Inputs.{Inputs, AreWithin, PassesFileLimit, IsFileLimit}
 use Rattle.galois_run.specs.CommandMeaning.{CommandMeaning}
 
 -- the answers that may come at any place, in place of the one that the input calls for
@@ -17,9 +17,13 @@ pub record ComesWhere (cause : Type 0) (status result : Status) : Type 0 where
   pub only : result ≡ status → cause
   pub always : cause → (result ≡ status) ⊎ GivesUp result
 
+-- a file has too many bytes, or none has and what they hold is past a limit of the command's
+abbrev pub PassesLimit : CommandMeaning → Inputs → What → Type 0
+PassesLimit meaning inputs what = PassesFileLimit inputs what ⊎ (AreWithin inputs × meaning.too_large inputs what)
+
 -- each refusal of the inputs comes exactly where they call for it
 pub record IsCaused (meaning : CommandMeaning) (inputs : Inputs) (status : Status) : Type 0 where
-  pub too_large : (what : What) → ComesWhere (meaning.too_large inputs what) (TooLarge what) status
+  pub too_large : (what : What) → ComesWhere (PassesLimit meaning inputs what) (TooLarge what) status
   pub bad_input : (line : ℕ) → ComesWhere (AreWithin inputs × meaning.malformed inputs line) (BadInput line) status
   pub spent : ComesWhere (AreWithin inputs × meaning.unfinished inputs) Spent status
 
@@ -43,7 +47,7 @@ pub record IsCutShort (meaning : CommandMeaning) (inputs : Inputs) (before after
 -- the statuses that a command answers, whatever the files tell
 abbrev pub IsAnswer : CommandMeaning → Status → Type 0
 IsAnswer meaning (BadInput line) = meaning.lines line
-IsAnswer meaning (TooLarge what) = meaning.limits what
+IsAnswer meaning (TooLarge what) = IsFileLimit what ⊎ meaning.limits what
 IsAnswer meaning Spent = meaning.runs_on
 IsAnswer meaning Kept = ⊥
 IsAnswer meaning (BadTable why) = ⊥

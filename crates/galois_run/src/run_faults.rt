@@ -9,6 +9,8 @@ use gx_io::WholeRefuse;
 pub enum RunFault {
     /// The inputs are not of the form, and this line is told.
     BadInput { line: u64 },
+    /// The inputs are of the form, and past this limit.
+    TooLarge { what: What },
     /// As many items have committed as may, and one is ready.
     Spent,
     NoMemory,
@@ -34,6 +36,7 @@ impl From<RunFault> for Status {
     fn from(fault: RunFault) -> Status {
         match fault {
             RunFault::BadInput { line } => Status::BadInput { line },
+            RunFault::TooLarge { what } => Status::TooLarge { what },
             RunFault::Spent => Status::Spent,
             RunFault::NoMemory => Status::NoMemory,
         }

@@ -1,1 +1,4 @@
-pub mod FlowFileLaws
+pub mod LineTests
+pub mod LineRuns
+pub mod FirstFaults
+pub mod FileAnswers

@@ -1,11 +1,10 @@
 -- What the lines of a flow file say.
-use Rattle.std.specs.Prelude.{ℕ, pos, if◌then◌else◌, List, [], ◌∷◌, map, Option, Some, None, codes, bytes_eq}
-use Rattle.text_lines.specs.Lines.{lines_of, begins_with}
+use Rattle.std.specs.Prelude.{ℕ, ◌<◌, ◌^◌, if◌then◌else◌, List, [], ◌∷◌, Option, Some, None, codes, bytes_eq, ⊤}
+use Rattle.text_lines.specs.Lines.{begins_with}
 use Rattle.text_lines.specs.Fields.{fields_of}
 use Rattle.text_lines.specs.Numbers.{number_of}
 use Rattle.preflow_push.specs.declared.flow_lines.Said.{Said}
-use Rattle.preflow_push.specs.declared.flow_lines.Said.TheVariants as says
-use Rattle.preflow_push.specs.declared.flow_lines.Said.TheVariants.{Nothing, Problem, Source, Sink, Wrong}
+use Rattle.preflow_push.specs.declared.flow_lines.Said.TheVariants.{Nothing, Problem, Source, Sink, Arc, Wrong}
 
 -- three fields and no more
 abbrev pub three_of : List (List ℕ) → Option (List ℕ × List ℕ × List ℕ)
@@ -24,7 +23,7 @@ two_of (a ∷ b ∷ c ∷ fields) = None
 
 -- p max NODES ARCS
 abbrev pub problem_with : Option ℕ → Option ℕ → Said
-problem_with (Some nodes) (Some arcs) = Problem (pos nodes) arcs
+problem_with (Some nodes) (Some arcs) = Problem nodes arcs
 problem_with (Some nodes) None = Wrong
 problem_with None arcs = Wrong
 
@@ -35,8 +34,8 @@ problem_of None = Wrong
 -- n ID s, or n ID t
 abbrev pub terminal_with : Option ℕ → List ℕ → Said
 terminal_with (Some id) word =
-    if bytes_eq word (codes "s") then Source (pos id)
-    else if bytes_eq word (codes "t") then Sink (pos id)
+    if bytes_eq word (codes "s") then Source id
+    else if bytes_eq word (codes "t") then Sink id
     else Wrong
 terminal_with None word = Wrong
 
@@ -46,7 +45,7 @@ terminal_of None = Wrong
 
 -- a FROM TO CAP
 abbrev pub arc_with : Option ℕ → Option ℕ → Option ℕ → Said
-arc_with (Some from) (Some to) (Some cap) = says.Arc (record { from = pos from; to = pos to; cap = pos cap })
+arc_with (Some from) (Some to) (Some cap) = Arc from to cap
 arc_with (Some from) (Some to) None = Wrong
 arc_with (Some from) None cap = Wrong
 arc_with None to cap = Wrong
@@ -68,12 +67,10 @@ fields_say (kind ∷ fields) =
 abbrev pub said_by : List ℕ → Said
 said_by line = fields_say (fields_of line)
 
--- what is said, without the lines that are skipped
-abbrev pub spoken : List Said → List Said
-spoken [] = []
-spoken (Nothing ∷ saids) = spoken saids
-spoken (said ∷ saids) = said ∷ spoken saids
-
--- what the lines of a text say, without those that are skipped
-abbrev pub spoken_of : List ℕ → List Said
-spoken_of text = spoken (map said_by (lines_of text))
+-- the numbers of a line have at most 18 digits
+abbrev pub IsSmall : Said → Type 0
+IsSmall (Problem nodes arcs) = (nodes < 10 ^ 18) × (arcs < 10 ^ 18)
+IsSmall (Source id) = id < 10 ^ 18
+IsSmall (Sink id) = id < 10 ^ 18
+IsSmall (Arc from to cap) = (from < 10 ^ 18) × (to < 10 ^ 18) × (cap < 10 ^ 18)
+IsSmall said = ⊤

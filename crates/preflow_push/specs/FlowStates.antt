@@ -1,8 +1,11 @@
 -- The numbers of a flow in the states of rooms.
 use Rattle.std.specs.Prelude.{ℕ, ℤ}
-use Rattle.gx_base.specs.FlowKind.{excess_sort, flow_sort}
+use Rattle.gx_base.specs.FlowKind.{height_sort, excess_sort, flow_sort}
 use Rattle.gx_base.specs.States.{State, number_at}
 use Rattle.preflow_push.specs.FlowCalls.{room_of}
+
+abbrev pub height_in : (ℕ → State) → ℤ → ℤ
+height_in states node = number_at (states (room_of node)) (height_sort, node)
 
 abbrev pub excess_in : (ℕ → State) → ℤ → ℤ
 excess_in states node = number_at (states (room_of node)) (excess_sort, node)

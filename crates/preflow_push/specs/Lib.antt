@@ -1,7 +1,8 @@
-pub mod FlowFiles
-pub mod FlowLines
-pub mod FlowParts
 pub mod Networks
+pub mod FlowLines
+pub mod FlowFiles
+pub mod FlowLimits
+pub mod FlowReading
 pub mod FlowCalls
 pub mod Touching
 pub mod TouchLists
@@ -11,3 +12,4 @@ pub mod Discharges
 pub mod FlowStates
 pub mod FlowReports
 pub mod Starts
+pub mod StartLaw

@@ -1,45 +1,35 @@
 //! What the lines of a flow file say.
 
-ghost use Rattle.std.specs.Prelude.{◌≡◌, ◌<◌, [], ◌∷◌, length, option_map, IfSome, MatchOption};
+ghost use Rattle.std.specs.Prelude.{◌≡◌, option_map};
 ghost use Rattle.text_lines.specs.Fields.{fields_of};
-ghost use Rattle.preflow_push.specs.FlowLines.{said_by, spoken_of, three_of, two_of, problem_of, terminal_of, arc_of};
+ghost use Rattle.preflow_push.specs.FlowLines.{said_by, three_of, two_of, problem_of, terminal_of, arc_of, IsSmall};
 
-use super::network::Arc;
-use text_lines::{first_line, next_field, number};
+use text_lines::{next_field, number};
 
-/// What one line says.
+/// What one line says, in numbers of at most 18 digits.
 #[derive(Clone, Copy, Debug, PartialEq, Eq)]
 pub enum Said {
     /// Nothing: the line is skipped.
     Nothing,
-    Problem { nodes: i64, arcs: u64 },
-    Source(i64),
-    Sink(i64),
-    Arc(Arc),
+    Problem {
+        nodes: u64,
+        arcs: u64,
+    },
+    Source(u64),
+    Sink(u64),
+    Arc {
+        from: u64,
+        to: u64,
+        cap: u64,
+    },
     /// Something that no line of a flow file says.
     Wrong,
 }
 
-/// What the first line says that isn't skipped, and the text after that line.
-pub fn next_said(text: &[u8]) -> Option<(Said, &[u8])>
-    ensures said { MatchOption result (spoken_of text.now ≡ []) (λ x. spoken_of text.now ≡ x.0 ∷ spoken_of x.1.now) }
-    ensures shorter { IfSome result (λ x. length x.1.now < length text.now) }
-{
-    let mut rest = text;
-    while !rest.is_empty() {
-        let (line, after) = first_line(rest);
-        rest = after;
-        match said_by(line) {
-            Said::Nothing => {}
-            said => return Some((said, rest)),
-        }
-    }
-    None
-}
-
 /// What a line says.
-fn said_by(line: &[u8]) -> Said
-    ensures { result ≡ said_by line.now }
+pub fn said_by(line: &[u8]) -> Said
+    ensures said { result ≡ said_by line.now }
+    ensures small { IsSmall result }
 {
     let Some((kind, rest)) = next_field(line) else {
         return Said::Nothing;
@@ -61,7 +51,8 @@ fn said_by(line: &[u8]) -> Said
 
 /// What `max NODES ARCS` says after the `p` of its line.
 fn problem(line: &[u8]) -> Said
-    ensures { result ≡ problem_of (three_of (fields_of line.now)) }
+    ensures said { result ≡ problem_of (three_of (fields_of line.now)) }
+    ensures small { IsSmall result }
 {
     let Some((word, nodes, arcs)) = three(line) else {
         return Said::Wrong;
@@ -70,17 +61,15 @@ fn problem(line: &[u8]) -> Said
         return Said::Wrong;
     }
     match (number(nodes), number(arcs)) {
-        (Some(nodes), Some(arcs)) => Said::Problem {
-            nodes: nodes as i64,
-            arcs,
-        },
+        (Some(nodes), Some(arcs)) => Said::Problem { nodes, arcs },
         _ => Said::Wrong,
     }
 }
 
 /// What `ID s` or `ID t` says after the `n` of its line.
 fn terminal(line: &[u8]) -> Said
-    ensures { result ≡ terminal_of (two_of (fields_of line.now)) }
+    ensures said { result ≡ terminal_of (two_of (fields_of line.now)) }
+    ensures small { IsSmall result }
 {
     let Some((id, word)) = two(line) else {
         return Said::Wrong;
@@ -89,17 +78,18 @@ fn terminal(line: &[u8]) -> Said
         return Said::Wrong;
     };
     if word == b"s".as_slice() {
-        return Said::Source(id as i64);
+        return Said::Source(id);
     }
     if word == b"t".as_slice() {
-        return Said::Sink(id as i64);
+        return Said::Sink(id);
     }
     Said::Wrong
 }
 
 /// What `FROM TO CAP` says after the `a` of its line.
 fn arc(line: &[u8]) -> Said
-    ensures { result ≡ arc_of (three_of (fields_of line.now)) }
+    ensures said { result ≡ arc_of (three_of (fields_of line.now)) }
+    ensures small { IsSmall result }
 {
     let Some((from, to, cap)) = three(line) else {
         return Said::Wrong;
@@ -113,11 +103,7 @@ fn arc(line: &[u8]) -> Said
     let Some(cap) = number(cap) else {
         return Said::Wrong;
     };
-    Said::Arc(Arc {
-        from: from as i64,
-        to: to as i64,
-        cap: cap as i64,
-    })
+    Said::Arc { from, to, cap }
 }
 
 /// Three fields and no more.

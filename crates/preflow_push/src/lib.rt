@@ -4,13 +4,15 @@
 //! `read_max` gives a `Network`, `start` the shards and the items that are ready, `Discharge` is the operator that a
 //! runner is given with them, and `report` writes what it left.
 //!
-//! `specs/Networks.antt` has what a network is, `specs/FlowFiles.antt` which bytes are a flow file and of which
-//! network, and `specs/Discharge.antt` what is done for a node.
+//! `specs/Networks.antt` has what a network is, `specs/FlowFiles.antt` which bytes are a flow file, of which network,
+//! and which line of others is told, `specs/FlowLimits.antt` which of them are too large, and `specs/Discharge.antt`
+//! what is done for a node. `laws` has what follows from these definitions alone.
 #![tactic(auto)]
 
 mod discharge;
 mod flow_calls;
 mod flow_lines;
+pub mod laws;
 mod network;
 mod reading;
 mod reports;

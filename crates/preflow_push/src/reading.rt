@@ -1,147 +1,197 @@
 //! Reading a flow file.
 
-ghost use Rattle.std.specs.Prelude.{◌≡◌, ◌↔◌, ◌⊎◌, ℕ, List, IsTrue, IsNone, Ok, Err, None, IfOk, IfErr, IfSome, MatchResult};
+ghost use Rattle.std.specs.Prelude.{◌≡◌, ◌⊎◌, Result, Some, None, Ok, Err, IfOk, IsTrue, IsFalse};
+ghost use Rattle.gx_base.specs.declared.inputs.InputFault as fault;
 ghost use Rattle.gx_base.specs.declared.inputs.InputFault.TheVariants as faults;
-ghost use Rattle.preflow_push.specs.declared.flow_lines.Said.{Said};
-ghost use Rattle.preflow_push.specs.declared.network.Arc as arc;
-ghost use Rattle.preflow_push.specs.declared.reading.Head as head;
-ghost use Rattle.preflow_push.specs.FlowFiles.{IsFlowFile, IsSize, IsNode, AreTwoNodes, Joins};
-ghost use Rattle.preflow_push.specs.FlowParts.{HasHead, HasArcs};
-ghost use Rattle.preflow_push.specs.FlowLines.{spoken_of};
+ghost use Rattle.preflow_push.specs.FlowLimits.{CallsFor, answer_of, sized};
+ghost use Rattle.preflow_push.specs.FlowLines.{IsSmall};
+ghost use Rattle.preflow_push.specs.FlowReading.{state, at_first, step, whole, AreSmall, flow_of, Gives, ended, is_node, is_free, may_stand, may_go};
 ghost use Rattle.preflow_push.specs.Networks.{Net, view};
 
-use super::flow_lines::{Said, next_said};
+use super::flow_lines::{Said, said_by};
 use super::network::{Arc, Network};
-use gx_base::{InputFault, NoMemory};
+use gx_base::{InputFault, NoMemory, What};
 use std::alloc::Global;
+use text_lines::first_line;
 
 const MOST_NODES: i64 = 100_000;
 
-const MOST_ARCS: u64 = 400_000;
+const MOST_ARCS: usize = 400_000;
 
-const MOST_CAP: i64 = 1_000_000_000;
+const MOST_CAP: u64 = 1_000_000_000;
 
-/// How many bytes the line of an arc has at least, with its line feed: those of `a 1 2 0`. So a short file that
-/// tells of many arcs takes no more memory than its lines can fill.
-const LEAST_LINE: usize = 8;
-
-/// The network of a flow file. A fault tells no line: it is line 0.
+/// The network of a flow file. A fault tells the first line that can't stand where it is, or one more than the last
+/// line where something is missing; a flow file that passes a limit is too large, by the first that it passes.
 pub fn read_max(alloc: Global, bytes: &[u8]) -> Result<Network, InputFault>
-    // What is read is a flow file of that network.
-    ensures found { IfOk result (λ net. IsFlowFile bytes.now (view net)) }
-    // A flow file of a network is read as that one, unless memory runs out.
-    ensures only { (net : Net) → IsFlowFile bytes.now net → MatchResult result (λ read. view read ≡ net) (λ e. e ≡ faults.NoMemory) }
-    // What is refused is no flow file.
-    ensures refused { result ≡ Err (faults.Line 0) → (net : Net) → IsFlowFile bytes.now net → ⊥ }
-    ensures faults { IfErr result (λ e. (e ≡ faults.Line 0) ⊎ (e ≡ faults.NoMemory)) }
+    // The answer is what the text calls for, unless memory runs out.
+    ensures told { (result ≡ Err faults.NoMemory) ⊎ CallsFor bytes.now (answer_of result) }
+    ensures only { (answer : Result Net fault.InputFault) → CallsFor bytes.now answer → (result ≡ Err faults.NoMemory) ⊎ (answer_of result ≡ answer) }
 {
-    let Some((head, rest)) = read_head(bytes) else {
-        return Err(InputFault::Line(0));
-    };
-    match read_arcs(alloc, head.nodes, head.arcs, rest) {
-        Ok(Some(arcs)) => Ok(Network {
-            nodes: head.nodes,
-            source: head.source,
-            sink: head.sink,
-            arcs,
-        }),
-        Ok(None) => Err(InputFault::Line(0)),
-        Err(NoMemory) => Err(InputFault::NoMemory),
-    }
+    let net = read_lines(alloc, bytes)?;
+    within_limits(net)
 }
 
-/// What stands before the arcs.
-#[derive(Clone, Copy, Debug, PartialEq, Eq)]
-pub struct Head {
-    nodes: i64,
-    source: i64,
-    sink: i64,
-    /// How many arcs there are to be.
-    arcs: usize,
+/// A network, unless it is too large to be read.
+fn within_limits(net: Network) -> Result<Network, InputFault>
+    ensures { answer_of result ≡ sized (view net) }
+{
+    if net.nodes > MOST_NODES {
+        return Err(InputFault::Large(What::Nodes));
+    }
+    if net.arcs.len() > MOST_ARCS {
+        return Err(InputFault::Large(What::Arcs));
+    }
+    Ok(net)
 }
 
-/// What stands before the arcs, and the text after it.
-fn read_head(text: &[u8]) -> Option<(Head, &[u8])>
-    ensures found { IfSome result (λ x. HasHead (spoken_of text.now) x.0 (spoken_of x.1.now)) }
-    ensures none { IsNone result → (h : head.Head) (rest : List Said) → HasHead (spoken_of text.now) h rest → ⊥ }
+/// Reads line by line, whatever the limits.
+fn read_lines(alloc: Global, bytes: &[u8]) -> Result<Network, InputFault>
+    ensures { Gives result (flow_of bytes.now) }
 {
-    let Some((Said::Problem { nodes, arcs }, rest)) = next_said(text) else {
-        return None;
-    };
-    let Some((Said::Source(source), rest)) = next_said(rest) else {
-        return None;
-    };
-    let Some((Said::Sink(sink), rest)) = next_said(rest) else {
-        return None;
-    };
-    if !is_size(nodes, arcs) {
-        return None;
-    }
-    if !are_two_nodes(nodes, source, sink) {
-        return None;
-    }
-    let head = Head {
-        nodes,
-        source,
-        sink,
-        arcs: arcs as usize,
-    };
-    Some((head, rest))
-}
-
-/// The arcs that a text says, where it says so many and nothing else.
-fn read_arcs(
-    alloc: Global,
-    nodes: i64,
-    count: usize,
-    text: &[u8],
-) -> Result<Option<Vec<Arc>>, NoMemory>
-    ensures found { IfOk result (λ found. IfSome found (λ arcs. HasArcs (spoken_of text.now) nodes count arcs.items)) }
-    ensures none { result ≡ Ok None → (arcs : List arc.Arc) → HasArcs (spoken_of text.now) nodes count arcs → ⊥ }
-{
-    let mut arcs = Vec::with_capacity(alloc, count.min(text.len() / LEAST_LINE + 1))?;
-    let mut rest = text;
-    while let Some((said, after)) = next_said(rest) {
-        let Said::Arc(arc) = said else {
-            return Ok(None);
-        };
-        if arcs.len() == count {
-            return Ok(None);
+    let mut seen = Seen::new(alloc);
+    let mut rest = bytes;
+    let mut next = 1;
+    while !rest.is_empty() {
+        let (line, after) = first_line(rest);
+        match seen.take(said_by(line)) {
+            Ok(true) => {}
+            Ok(false) => return Err(InputFault::Line(next)),
+            Err(NoMemory) => return Err(InputFault::NoMemory),
         }
-        if !joins(&arc, nodes) {
-            return Ok(None);
-        }
-        arcs.push(arc)?;
         rest = after;
+        next += 1;
     }
-    if arcs.len() < count {
-        return Ok(None);
-    }
-    Ok(Some(arcs))
+    seen.finish(next)
 }
 
-fn is_size(nodes: i64, arcs: u64) -> bool
-    ensures { IsTrue result ↔ IsSize nodes arcs }
+/// What the lines said so far.
+#[derive(Drop)]
+pub struct Seen {
+    /// How many nodes and arcs there are to be.
+    problem: Option<(u64, u64)>,
+    source: Option<u64>,
+    sink: Option<u64>,
+    arcs: Vec<Arc>,
+}
+
+impl Seen {
+    fn new(alloc: Global) -> Seen
+        ensures first { state result ≡ at_first }
+        ensures small { AreSmall (state result) }
+    {
+        Seen {
+            problem: None,
+            source: None,
+            sink: None,
+            arcs: Vec::new(alloc),
+        }
+    }
+
+    /// Takes what one more line says, and tells whether the line can stand there.
+    fn take(&mut self, said: Said) -> Result<bool, NoMemory>
+        requires said_small { IsSmall said }
+        requires small { AreSmall (state self.old) }
+        ensures good { IfOk result (λ good. IsTrue good → step said (state self.old) ≡ Some (state self.new)) }
+        ensures faulty { IfOk result (λ good. IsFalse good → step said (state self.old) ≡ None) }
+        ensures small { AreSmall (state self.new) }
+    {
+        match said {
+            Said::Nothing => Ok(true),
+            Said::Wrong => Ok(false),
+            Said::Problem { nodes, arcs } => {
+                if self.problem.is_none() && 2 <= nodes {
+                    self.problem = Some((nodes, arcs));
+                    return Ok(true);
+                }
+                Ok(false)
+            }
+            Said::Source(id) => {
+                if may_stand(self.problem, self.source, self.sink, id) {
+                    self.source = Some(id);
+                    return Ok(true);
+                }
+                Ok(false)
+            }
+            Said::Sink(id) => {
+                if may_stand(self.problem, self.sink, self.source, id) {
+                    self.sink = Some(id);
+                    return Ok(true);
+                }
+                Ok(false)
+            }
+            Said::Arc { from, to, cap } => {
+                if may_go(self.problem, self.arcs.len(), from, to, cap) {
+                    self.arcs.push(Arc {
+                        from: from as i64,
+                        to: to as i64,
+                        cap: cap as i64,
+                    })?;
+                    return Ok(true);
+                }
+                Ok(false)
+            }
+        }
+    }
+
+    /// The network, where nothing is missing at the end, whose line is given.
+    fn finish(self, end: u64) -> Result<Network, InputFault>
+        requires { AreSmall (state self) }
+        ensures { Gives result (ended (whole (state self)) end) }
+    {
+        match (self.problem, self.source, self.sink) {
+            (Some((nodes, arcs)), Some(source), Some(sink)) if self.arcs.len() as u64 == arcs => {
+                Ok(Network {
+                    nodes: nodes as i64,
+                    source: source as i64,
+                    sink: sink as i64,
+                    arcs: self.arcs,
+                })
+            }
+            _ => Err(InputFault::Line(end)),
+        }
+    }
+}
+
+/// Whether a terminal may be told, where this one and the other may have been told before.
+fn may_stand(problem: Option<(u64, u64)>, this: Option<u64>, other: Option<u64>, id: u64) -> bool
+    ensures { result ≡ may_stand problem this other id }
 {
-    2 <= nodes && nodes <= MOST_NODES && arcs <= MOST_ARCS
+    match problem {
+        None => false,
+        Some((nodes, _)) => this.is_none() && is_node(nodes, id) && is_free(id, other),
+    }
 }
 
-fn is_node(nodes: i64, id: i64) -> bool
-    ensures { IsTrue result ↔ IsNode nodes id }
+/// Whether an arc may be told after so many.
+fn may_go(problem: Option<(u64, u64)>, before: usize, from: u64, to: u64, cap: u64) -> bool
+    ensures { result ≡ may_go problem before from to cap }
+{
+    match problem {
+        None => false,
+        Some((nodes, arcs)) => {
+            (before as u64) < arcs
+                && is_node(nodes, from)
+                && is_node(nodes, to)
+                && from != to
+                && cap <= MOST_CAP
+        }
+    }
+}
+
+fn is_node(nodes: u64, id: u64) -> bool
+    ensures { result ≡ is_node nodes id }
 {
     1 <= id && id <= nodes
 }
 
-fn are_two_nodes(nodes: i64, a: i64, b: i64) -> bool
-    ensures { IsTrue result ↔ AreTwoNodes nodes a b }
+/// Whether the other terminal isn't this node.
+fn is_free(id: u64, other: Option<u64>) -> bool
+    ensures { result ≡ is_free id other }
 {
-    a != b && is_node(nodes, a) && is_node(nodes, b)
-}
-
-fn joins(arc: &Arc, nodes: i64) -> bool
-    ensures { IsTrue result ↔ Joins nodes arc.now }
-{
-    are_two_nodes(nodes, arc.from, arc.to) && arc.cap <= MOST_CAP
+    match other {
+        None => true,
+        Some(other) => id != other,
+    }
 }
 
 #[cfg(test)]

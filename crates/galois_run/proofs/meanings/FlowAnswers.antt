@@ -1,11 +1,18 @@
 -- What `flow` answers is what it means.
-use Rattle.std.proofs.Common.{◌≡◌, inl, inr, ℕ, List, IfOk, Result, Ok, Err, Vec, refl, sym, ◌∙◌, ap, subst}
+use Rattle.std.proofs.Common.{◌≡◌, ◌⊎◌, inl, inr, ℕ, List, IfOk, Result, Ok, Err, Vec, refl, sym, ap, subst, ◌∙◌}
 use Rattle.std.specs.Global.{Global}
+use Rattle.gx_base.specs.declared.inputs.What.{What}
+use Rattle.gx_base.specs.declared.inputs.InputFault.{InputFault}
+use Rattle.gx_base.specs.declared.inputs.InputFault.TheVariants as inputs
+use Rattle.preflow_push.specs.declared.network.Network.{Network}
+use Rattle.preflow_push.specs.Networks.{Net, view}
+use Rattle.preflow_push.specs.FlowLimits.{IsReadable, IsTooLarge, CallsFor, answer_of}
+use Rattle.preflow_push.proofs.CallerLemmas.{one_answer}
 use Rattle.galois_run.specs.declared.run_faults.RunFault.{RunFault}
-use Rattle.galois_run.specs.declared.run_faults.RunFault.TheVariants.{BadInput, Spent, NoMemory}
+use Rattle.galois_run.specs.declared.run_faults.RunFault.TheVariants.{BadInput, TooLarge, Spent, NoMemory}
 use Rattle.galois_run.specs.Inputs.{Inputs, main_of}
-use Rattle.galois_run.specs.RunFaults.{FaultsWhere, Answers}
-use Rattle.galois_run.specs.commands.Flow.{IsFlowReport, IsNoFlow, IsUnfinishedFlow, flow_meaning}
+use Rattle.galois_run.specs.RunFaults.{fault_of_input, FaultsWhere, Answers}
+use Rattle.galois_run.specs.commands.Flow.{IsFlowReport, IsFaultyFlow, IsUnfinishedFlow, flow_meaning}
 use Rattle.galois_run.proofs.meanings.FlowRuns.{ends_or_is_unfinished}
 
 abbrev Made : Type 0
@@ -14,28 +21,116 @@ Made = Result (Vec ℕ Global) RunFault
 -- what is known of what is made of a flow file
 record Known (bytes : List ℕ) (result : Made) : Type 0 where
   pub reported : IfOk result (λ text. IsFlowReport bytes text.items)
-  pub malformed : (line : ℕ) → result ≡ Err (BadInput line) → IsNoFlow bytes line
+  pub malformed : (line : ℕ) → result ≡ Err (BadInput line) → IsFaultyFlow bytes line
+  pub too_large : (what : What) → result ≡ Err (TooLarge what) → IsTooLarge bytes what
   pub unfinished : result ≡ Err Spent → IsUnfinishedFlow bytes
 
-malformed : (bytes : List ℕ) (result : Made) (line : ℕ) → Known bytes result → FaultsWhere (IsNoFlow bytes line) (BadInput line) result
-malformed bytes (Ok text) line known = record { only = λ e. absurd (cc); always = λ m. absurd (m.1 known.reported.net known.reported.is_file) }
+-- ---- a text calls for one answer
+read_or_faulty : (bytes : List ℕ) (net : Net) (line : ℕ) → IsReadable bytes net → IsFaultyFlow bytes line → ⊥
+read_or_faulty bytes net line r m = let e : Ok net ≡ Err (inputs.Line line) = one_answer bytes (Ok net) (Err (inputs.Line line)) r m in cc
+
+read_or_large : (bytes : List ℕ) (net : Net) (what : What) → IsReadable bytes net → IsTooLarge bytes what → ⊥
+read_or_large bytes net what r l = let e : Ok net ≡ Err (inputs.Large what) = one_answer bytes (Ok net) (Err (inputs.Large what)) r l in cc
+
+faulty_or_large : (bytes : List ℕ) (line : ℕ) (what : What) → IsFaultyFlow bytes line → IsTooLarge bytes what → ⊥
+faulty_or_large bytes line what m l =
+    let answer : ℕ → Result Net InputFault = λ n. Err (inputs.Line n) in
+    let e : answer line ≡ Err (inputs.Large what) = one_answer bytes (Err (inputs.Line line)) (Err (inputs.Large what)) m l in
+    cc
+
+same_line : (bytes : List ℕ) (j k : ℕ) → IsFaultyFlow bytes j → IsFaultyFlow bytes k → j ≡ k
+same_line bytes j k p q =
+    let answer : ℕ → Result Net InputFault = λ n. Err (inputs.Line n) in
+    let e : answer j ≡ answer k = one_answer bytes (Err (inputs.Line j)) (Err (inputs.Line k)) p q in
+    cc
+
+same_limit : (bytes : List ℕ) (a b : What) → IsTooLarge bytes a → IsTooLarge bytes b → a ≡ b
+same_limit bytes a b p q =
+    let answer : What → Result Net InputFault = λ w. Err (inputs.Large w) in
+    let e : answer a ≡ answer b = one_answer bytes (Err (inputs.Large a)) (Err (inputs.Large b)) p q in
+    cc
+
+malformed : (bytes : List ℕ) (result : Made) (line : ℕ) → Known bytes result → FaultsWhere (IsFaultyFlow bytes line) (BadInput line) result
+malformed bytes (Ok text) line known = record { only = λ e. absurd (cc); always = λ m. absurd (read_or_faulty bytes known.reported.net line known.reported.is_read m) }
 malformed bytes (Err (BadInput told)) line known = record {
   only = known.malformed line;
-  always = λ m. inl (ap (λ (n : ℕ). Err (BadInput n)) ((known.malformed told refl).0 ∙ sym m.0));
+  always = λ m. inl (ap (λ (n : ℕ). Err (BadInput n)) (same_line bytes told line (known.malformed told refl) m));
 }
-malformed bytes (Err Spent) line known = record { only = λ e. absurd (cc); always = λ m. absurd (m.1 (known.unfinished refl).net (known.unfinished refl).is_file) }
+malformed bytes (Err (TooLarge what)) line known = record { only = λ e. absurd (cc); always = λ m. absurd (faulty_or_large bytes line what m (known.too_large what refl)) }
+malformed bytes (Err Spent) line known = record { only = λ e. absurd (cc); always = λ m. absurd (read_or_faulty bytes (known.unfinished refl).net line (known.unfinished refl).is_read m) }
 malformed bytes (Err NoMemory) line known = record { only = λ e. absurd (cc); always = λ m. inr refl }
+
+too_large : (bytes : List ℕ) (result : Made) (what : What) → Known bytes result → FaultsWhere (IsTooLarge bytes what) (TooLarge what) result
+too_large bytes (Ok text) what known = record { only = λ e. absurd (cc); always = λ l. absurd (read_or_large bytes known.reported.net what known.reported.is_read l) }
+too_large bytes (Err (BadInput told)) what known = record { only = λ e. absurd (cc); always = λ l. absurd (faulty_or_large bytes told what (known.malformed told refl) l) }
+too_large bytes (Err (TooLarge told)) what known = record {
+  only = known.too_large what;
+  always = λ l. inl (ap (λ (w : What). Err (TooLarge w)) (same_limit bytes told what (known.too_large told refl) l));
+}
+too_large bytes (Err Spent) what known = record { only = λ e. absurd (cc); always = λ l. absurd (read_or_large bytes (known.unfinished refl).net what (known.unfinished refl).is_read l) }
+too_large bytes (Err NoMemory) what known = record { only = λ e. absurd (cc); always = λ l. inr refl }
 
 -- the run ends, or it goes on past the commits that may be
 unfinished : (bytes : List ℕ) (result : Made) → Known bytes result → FaultsWhere (IsUnfinishedFlow bytes) Spent result
 unfinished bytes (Ok text) known = record { only = λ e. absurd (cc); always = λ u. absurd (ends_or_is_unfinished bytes text.items known.reported u) }
-unfinished bytes (Err (BadInput told)) known = record { only = λ e. absurd (cc); always = λ u. absurd ((known.malformed told refl).1 u.net u.is_file) }
+unfinished bytes (Err (BadInput told)) known = record { only = λ e. absurd (cc); always = λ u. absurd (read_or_faulty bytes u.net told u.is_read (known.malformed told refl)) }
+unfinished bytes (Err (TooLarge what)) known = record { only = λ e. absurd (cc); always = λ u. absurd (read_or_large bytes u.net what u.is_read (known.too_large what refl)) }
 unfinished bytes (Err Spent) known = record { only = known.unfinished; always = λ u. inl refl }
 unfinished bytes (Err NoMemory) known = record { only = λ e. absurd (cc); always = λ u. inr refl }
 
 pub flow_answers : (inputs : Inputs) (bytes : List ℕ) (result : Made) → bytes ≡ main_of inputs
-    → IfOk result (λ text. IsFlowReport bytes text.items) → ((line : ℕ) → result ≡ Err (BadInput line) → IsNoFlow bytes line) → (result ≡ Err Spent → IsUnfinishedFlow bytes)
+    → IfOk result (λ text. IsFlowReport bytes text.items) → ((line : ℕ) → result ≡ Err (BadInput line) → IsFaultyFlow bytes line)
+    → ((what : What) → result ≡ Err (TooLarge what) → IsTooLarge bytes what) → (result ≡ Err Spent → IsUnfinishedFlow bytes)
     → Answers flow_meaning inputs result
-flow_answers inputs bytes result e reported no_flow runs_on =
-    let known : Known (main_of inputs) result = subst (λ (x : List ℕ). Known x result) e (record { reported = reported; malformed = no_flow; unfinished = runs_on }) in
-    record { reported = known.reported; malformed = λ line. malformed (main_of inputs) result line known; unfinished = unfinished (main_of inputs) result known }
+flow_answers inputs bytes result e reported faulty large runs_on =
+    let known : Known (main_of inputs) result = subst (λ (x : List ℕ). Known x result) e (record { reported = reported; malformed = faulty; too_large = large; unfinished = runs_on }) in
+    record {
+      reported = known.reported;
+      malformed = λ line. malformed (main_of inputs) result line known;
+      too_large = λ what. too_large (main_of inputs) result what known;
+      unfinished = unfinished (main_of inputs) result known;
+    }
+
+-- ---- what the reader tells
+
+abbrev pub Told : List ℕ → Result Network InputFault → Type 0
+Told bytes r = (r ≡ Err inputs.NoMemory) ⊎ CallsFor bytes (answer_of r)
+
+pub is_read : (bytes : List ℕ) (r : Result Network InputFault) (net : Network) → r ≡ Ok net → Told bytes r → IsReadable bytes (view net)
+is_read bytes r net e (inl none) = absurd (let f : Ok net ≡ Err inputs.NoMemory = sym e ∙ none in cc)
+is_read bytes r net e (inr calls) = subst (λ (x : Result Network InputFault). CallsFor bytes (answer_of x)) e calls
+
+refusal : (bytes : List ℕ) (refused : InputFault) → Told bytes (Err refused) → CallsFor bytes (Err refused) ⊎ (refused ≡ inputs.NoMemory)
+refusal bytes refused (inl none) = inr (cc)
+refusal bytes refused (inr calls) = inl calls
+
+faulty_by : (bytes : List ℕ) (refused : InputFault) (line : ℕ) → CallsFor bytes (Err refused) ⊎ (refused ≡ inputs.NoMemory) → fault_of_input refused ≡ BadInput line → IsFaultyFlow bytes line
+faulty_by bytes (inputs.Line k) line (inl calls) e = subst (IsFaultyFlow bytes) (let same : k ≡ line = cc in same) calls
+faulty_by bytes (inputs.Line k) line (inr none) e = absurd (cc)
+faulty_by bytes (inputs.Large what) line calls e = absurd (cc)
+faulty_by bytes inputs.NoMemory line calls e = absurd (cc)
+
+large_by : (bytes : List ℕ) (refused : InputFault) (what : What) → CallsFor bytes (Err refused) ⊎ (refused ≡ inputs.NoMemory) → fault_of_input refused ≡ TooLarge what → IsTooLarge bytes what
+large_by bytes (inputs.Large w) what (inl calls) e = subst (IsTooLarge bytes) (let same : w ≡ what = cc in same) calls
+large_by bytes (inputs.Large w) what (inr none) e = absurd (cc)
+large_by bytes (inputs.Line k) what calls e = absurd (cc)
+large_by bytes inputs.NoMemory what calls e = absurd (cc)
+
+spent_by : (refused : InputFault) → fault_of_input refused ≡ Spent → ⊥
+spent_by (inputs.Line k) e = cc
+spent_by (inputs.Large w) e = cc
+spent_by inputs.NoMemory e = cc
+
+told_refusal : (bytes : List ℕ) (r : Result Network InputFault) (refused : InputFault) → r ≡ Err refused → Told bytes r → CallsFor bytes (Err refused) ⊎ (refused ≡ inputs.NoMemory)
+told_refusal bytes r refused e told = refusal bytes refused (subst (Told bytes) e told)
+
+pub is_faulty : {A : Type 0} (bytes : List ℕ) (r : Result Network InputFault) (refused : InputFault) (fault : RunFault) (line : ℕ) → r ≡ Err refused → Told bytes r → fault ≡ fault_of_input refused
+    → Err {T = A} fault ≡ Err (BadInput line) → IsFaultyFlow bytes line
+is_faulty bytes r refused fault line e told is same = faulty_by bytes refused line (told_refusal bytes r refused e told) (let here : fault ≡ BadInput line = cc in sym is ∙ here)
+
+pub is_large : {A : Type 0} (bytes : List ℕ) (r : Result Network InputFault) (refused : InputFault) (fault : RunFault) (what : What) → r ≡ Err refused → Told bytes r → fault ≡ fault_of_input refused
+    → Err {T = A} fault ≡ Err (TooLarge what) → IsTooLarge bytes what
+is_large bytes r refused fault what e told is same = large_by bytes refused what (told_refusal bytes r refused e told) (let here : fault ≡ TooLarge what = cc in sym is ∙ here)
+
+pub not_spent : {A : Type 0} (refused : InputFault) (fault : RunFault) → fault ≡ fault_of_input refused → Err {T = A} fault ≡ Err Spent → ⊥
+not_spent refused fault is same = spent_by refused (let here : fault ≡ Spent = cc in sym is ∙ here)

@@ -46,7 +46,7 @@ not_both : (net : Net) (report : List ℕ) (after : ℕ → State) → IsReportO
 not_both net report after r u = (determined (discharge_operator net)).not_unfinished (start_states net) r.after after (with_items [] (start_ready net)) r.commits r.run u
 
 pub ends_or_is_unfinished : (bytes report : List ℕ) → IsFlowReport bytes report → IsUnfinishedFlow bytes → ⊥
-ends_or_is_unfinished bytes report r u = not_both u.net report u.after (subst (λ net. IsReportOf net report) (one_network bytes r.net u.net r.is_file u.is_file) r.is_report) u.run
+ends_or_is_unfinished bytes report r u = not_both u.net report u.after (subst (λ net. IsReportOf net report) (one_network bytes r.net u.net r.is_read.is_file u.is_read.is_file) r.is_report) u.run
 
 pub front : {A : Type 0} (n : ℕ) (xs ys : List A) → length xs ≡ n → take n (xs ++ ys) ≡ xs
 front n xs ys e = subst (λ k. take k (xs ++ ys) ≡ xs) e (take-append_seam xs ys)

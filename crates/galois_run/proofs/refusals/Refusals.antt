@@ -2,8 +2,11 @@
 use Rattle.std.proofs.Common.{◌≡◌, ◌≢◌, inl, inr, ℕ, true, List, Option, Some, None, IfSome, IsSomeAnd, Ok, Err, Vec, refl, subst, arith}
 use Rattle.std.specs.Global.{Global}
 use Rattle.gx_base.specs.declared.inputs.What.{What}
+use Rattle.gx_base.specs.declared.inputs.What.TheVariants.{File, Nodes, Arcs, Points, Nets, Horizon, Size}
+use Rattle.preflow_push.specs.Networks.{Net}
+use Rattle.preflow_push.specs.FlowLimits.{Passes}
 use Rattle.galois_run.specs.declared.run_faults.RunFault.{RunFault}
-use Rattle.galois_run.specs.declared.run_faults.RunFault.TheVariants.{BadInput, Spent, NoMemory}
+use Rattle.galois_run.specs.declared.run_faults.RunFault.TheVariants.{BadInput, TooLarge, Spent, NoMemory}
 use Rattle.galois_run.specs.declared.status.Status.{Status}
 use Rattle.galois_run.specs.declared.status.Status.TheVariants as statuses
 use Rattle.galois_run.specs.declared.words.Command.{Command}
@@ -11,8 +14,9 @@ use Rattle.galois_run.specs.declared.words.Command.TheVariants.{Flow, Classify}
 use Rattle.galois_run.specs.CommandMeanings.{meaning_by}
 use Rattle.galois_run.specs.Inputs.{Inputs, IsWithin, IsTooLong, AreWithin, HasTooLong}
 use Rattle.galois_run.specs.CommandMeaning.{CommandMeaning}
+use Rattle.galois_run.specs.commands.Flow.{IsNetworkLimit}
 use Rattle.galois_run.specs.RunFaults.{status_of_fault, FaultsWhere, Answers}
-use Rattle.galois_run.specs.RunTurns.{ComesWhere, IsCaused, IsAnswer, writes}
+use Rattle.galois_run.specs.RunTurns.{ComesWhere, PassesLimit, IsCaused, IsAnswer, writes}
 
 -- ---- where a report is made, there is no cause for a refusal
 
@@ -25,20 +29,19 @@ not_too_long inputs within (inl main) = short_or_long inputs.main within.main ma
 not_too_long inputs within (inr (inl conditions)) = short_or_long inputs.conditions within.conditions conditions
 not_too_long inputs within (inr (inr second)) = short_or_long inputs.second within.second second
 
--- the limit on files is the only one of each command
-not_too_large : (command : Command) (inputs : Inputs) (what : What) → AreWithin inputs → (meaning_by command).too_large inputs what → ⊥
-not_too_large Flow inputs what within passed = not_too_long inputs within passed.1
-not_too_large Classify inputs what within passed = not_too_long inputs within passed.1
-
 never : {cause : Type 0} (is status : Status) → status ≢ is → (cause → ⊥) → ComesWhere cause is status
 never is status other none = record { only = λ e. absurd (other e); always = λ h. absurd (none h) }
 
 no_fault : {A cause : Type 0} (fault : RunFault) (text : A) → FaultsWhere cause fault (Ok text) → cause → ⊥
 no_fault fault text exact h = elim (exact.always h) [ inl e ↦ absurd (cc) | inr e ↦ absurd (cc) ]
 
+not_too_large : (meaning : CommandMeaning) (inputs : Inputs) (what : What) → AreWithin inputs → (meaning.too_large inputs what → ⊥) → PassesLimit meaning inputs what → ⊥
+not_too_large meaning inputs what within small (inl passed) = not_too_long inputs within passed.1
+not_too_large meaning inputs what within small (inr passed) = small passed.1
+
 report_caused : (command : Command) (inputs : Inputs) (text : Vec ℕ Global) → AreWithin inputs → Answers (meaning_by command) inputs (Ok text) → IsCaused (meaning_by command) inputs statuses.Ok
 report_caused command inputs text within answers = record {
-  too_large = λ what. never _ _ (λ e. cc) (not_too_large command inputs what within);
+  too_large = λ what. never _ _ (λ e. cc) (not_too_large (meaning_by command) inputs what within (no_fault _ text (answers.too_large what)));
   bad_input = λ line. never _ _ (λ e. cc) (λ m. no_fault _ text (answers.malformed line) m.1);
   spent = never _ _ (λ e. cc) (λ m. no_fault _ text answers.unfinished m.1);
 }
@@ -83,9 +86,22 @@ written_by_held meaning (Some inputs) status w caused = written_caused meaning i
 
 -- ---- what is told, whatever the files tell
 
+passed_limit : (net : Net) (what : What) → Passes net what → IsNetworkLimit what
+passed_limit net Nodes p = inl refl
+passed_limit net Arcs p = inr refl
+passed_limit net File p = absurd p
+passed_limit net Points p = absurd p
+passed_limit net Nets p = absurd p
+passed_limit net Horizon p = absurd p
+passed_limit net Size p = absurd p
+
 line_told : (command : Command) (inputs : Inputs) (line : ℕ) → (meaning_by command).malformed inputs line → (meaning_by command).lines line
-line_told Flow inputs line m = m.0
+line_told Flow inputs line m = m.from_one
 line_told Classify inputs line m = m.is_first.from_one
+
+limit_told : (command : Command) (inputs : Inputs) (what : What) → (meaning_by command).too_large inputs what → (meaning_by command).limits what
+limit_told Flow inputs what l = passed_limit l.net what l.passes
+limit_told Classify inputs what l = absurd l
 
 run_on_told : (command : Command) (inputs : Inputs) → (meaning_by command).unfinished inputs → (meaning_by command).runs_on
 run_on_told Flow inputs u = tt
@@ -93,5 +109,6 @@ run_on_told Classify inputs u = u
 
 pub fault_told : (command : Command) (inputs : Inputs) (fault : RunFault) → Answers (meaning_by command) inputs (Err fault) → IsAnswer (meaning_by command) (status_of_fault fault)
 fault_told command inputs (BadInput line) answers = line_told command inputs line ((answers.malformed line).only refl)
+fault_told command inputs (TooLarge what) answers = inr (limit_told command inputs what ((answers.too_large what).only refl))
 fault_told command inputs Spent answers = run_on_told command inputs (answers.unfinished.only refl)
 fault_told command inputs NoMemory answers = tt

@@ -13,7 +13,7 @@ use Rattle.cond_lattice.specs.Grades.{grade_of}
 use Rattle.cond_syntax.specs.Printing.{condition_text}
 use Rattle.cond_syntax.specs.TableTexts.{all_kinds, Fault, IsTableText, IsFirstFault}
 use Rattle.line_writer.specs.Lines.{line}
-use Rattle.galois_run.specs.Inputs.{main_of, PassesFileLimit, IsFileLimit}
+use Rattle.galois_run.specs.Inputs.{main_of}
 use Rattle.galois_run.specs.CommandMeaning.{CommandMeaning}
 
 -- the word of a class
@@ -49,14 +49,14 @@ pub record IsFaultyTable (wanted : List Kind) (bytes : List ℕ) (line : ℕ) : 
   pub fault : Fault
   pub is_first : IsFirstFault wanted bytes line fault
 
--- a table of any kind is wanted; lines are counted from 1, and nothing runs on
+-- a table of any kind is wanted; lines are counted from 1, no table is too large, and nothing runs on
 abbrev pub classify_meaning : CommandMeaning
 classify_meaning = record {
   reported = λ inputs report. IsClassReport all_kinds (main_of inputs) report;
   malformed = λ inputs line. IsFaultyTable all_kinds (main_of inputs) line;
-  too_large = PassesFileLimit;
+  too_large = λ inputs what. ⊥;
   unfinished = λ inputs. ⊥;
   lines = λ line. 1 ≤ line;
-  limits = IsFileLimit;
+  limits = λ what. ⊥;
   runs_on = ⊥;
 }

@@ -3,6 +3,7 @@
 ghost use Rattle.std.specs.Prelude.{◌≡◌, ℕ, Err, IfOk, OnOk, [], ◌∷◌, ◌++◌, codes};
 ghost use Rattle.gx_base.specs.Conditions.{condition_of};
 ghost use Rattle.gx_base.specs.TableRows.{row_of};
+ghost use Rattle.gx_base.specs.declared.inputs.What.{What};
 ghost use Rattle.galois_run.specs.Inputs.{inputs_in};
 ghost use Rattle.cond_syntax.specs.TableTexts.{all_kinds};
 ghost use Rattle.galois_run.specs.commands.Classify.{class_text, pair_line, first_lines, classify_text, IsClassReport, IsFaultyTable, classify_meaning};
@@ -141,6 +142,7 @@ pub fn report_classes(alloc: Global, inputs: &InputFiles) -> Result<Vec<u8>, Run
 fn classify_bytes(alloc: Global, bytes: &[u8]) -> Result<Vec<u8>, RunFault>
     ensures reported { IfOk result (λ text. IsClassReport all_kinds bytes.now text.items) }
     ensures faulty { (line : ℕ) → FaultsWhere (IsFaultyTable all_kinds bytes.now line) (faults.BadInput line) result }
+    ensures small { (what : What) → result ≡ Err (faults.TooLarge what) → ⊥ }
     ensures ends { result ≡ Err faults.Spent → ⊥ }
 {
     match read_table(alloc, bytes, &kinds()) {

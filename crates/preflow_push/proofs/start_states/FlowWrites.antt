@@ -88,7 +88,7 @@ pub set_in-other : (sort number_sort : ℕ) (number q x : ℤ) (s : ℕ → Stat
     → number_at (set_in number_sort number x s (room_of q)) (sort, q) ≡ number_at (s (room_of q)) (sort, q)
 set_in-other sort number_sort number q x s apart = set_by sort number_sort number q x s (nat_eq (room_of number) (room_of q)) refl apart
 
-gain-other : (sort : ℕ) (node q x : ℤ) (s : ℕ → State) → same_row (sort, q) (excess_sort, node) ≡ false → number_at (with_gain node x s (room_of q)) (sort, q) ≡ number_at (s (room_of q)) (sort, q)
+pub gain-other : (sort : ℕ) (node q x : ℤ) (s : ℕ → State) → same_row (sort, q) (excess_sort, node) ≡ false → number_at (with_gain node x s (room_of q)) (sort, q) ≡ number_at (s (room_of q)) (sort, q)
 gain-other sort node q x s apart = set_in-other sort excess_sort node q (int_wrapping_add w64 (excess_in s node) x) s apart
 
 pub flow_in-filled : (s : ℕ → State) (arc : Arc) (number q : ℤ) → int_eq q number ≡ false → flow_in (filled number arc s) q ≡ flow_in s q

@@ -43,7 +43,7 @@ no_negative : (x a n : ℕ) → list_any (int_eq (negsuc x)) (map pos (range_wit
 no_negative x a zero = refl
 no_negative x a (suc n) = no_negative x (a + 1) n
 
-any_node : (nodes q : ℤ) → list_any (int_eq q) (nodes_to nodes) ≡ is_node nodes q
+pub any_node : (nodes q : ℤ) → list_any (int_eq q) (nodes_to nodes) ≡ is_node nodes q
 any_node (pos n) (pos x) = in_range x 1 n ∙ grind (arith, nat_tests)
 any_node (pos n) (negsuc x) = no_negative x 1 n
 any_node (negsuc n) (pos x) = grind (arith, nat_tests)

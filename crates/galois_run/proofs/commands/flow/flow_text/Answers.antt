@@ -1,7 +1,20 @@
 use Rattle.preflow_push.specs.Networks.{view}
+use Rattle.galois_run.proofs.meanings.FlowAnswers.{is_read, is_faulty, is_large, not_spent}
 use Rattle.galois_run.proofs.commands.flow.flow_text.Goals as goal
+
+pub returns-in-Ok-clause-reported : goal.returns-in-Ok-clause-reported
+returns-in-Ok-clause-reported c = ?
 
 pub returns-in-Ok-clause-unfinished : goal.returns-in-Ok-clause-unfinished
 returns-in-Ok-clause-unfinished c e =
     let unfinished = c.network_text.ensures.unfinished e in
-    record { net = view c.in-Ok.net; after = unfinished.0; is_file = c.in-Ok.ensures.found; run = unfinished.1 }
+    record { net = view c.in-Ok.net; after = unfinished.0; is_read = is_read c.args.bytes.now c.read_max.result c.in-Ok.net c.in-Ok.is c.read_max.ensures.told; run = unfinished.1 }
+
+pub returns-in-Err-clause-malformed : goal.returns-in-Err-clause-malformed
+returns-in-Err-clause-malformed c = λ line e. is_faulty c.args.bytes.now c.read_max.result c.in-Err.refused c.input_fault.result line c.in-Err.is c.read_max.ensures.told c.input_fault.ensures e
+
+pub returns-in-Err-clause-too_large : goal.returns-in-Err-clause-too_large
+returns-in-Err-clause-too_large c = λ what e. is_large c.args.bytes.now c.read_max.result c.in-Err.refused c.input_fault.result what c.in-Err.is c.read_max.ensures.told c.input_fault.ensures e
+
+pub returns-in-Err-clause-unfinished : goal.returns-in-Err-clause-unfinished
+returns-in-Err-clause-unfinished c = λ e. absurd (not_spent c.in-Err.refused c.input_fault.result c.input_fault.ensures e)

@@ -1,0 +1,13 @@
+use Rattle.std.proofs.Common.{◌≡◌, ◌+◌, ◌≤◌, length}
+use Rattle.preflow_push.specs.FlowReading.{read_from, saids_of, flow_of, state, AreSmall}
+use Rattle.preflow_push.proofs.reading.read_lines.Given as goal
+
+abbrev pub invariant-loop-rest : goal.invariant-loop-rest
+invariant-loop-rest l = record {
+  so_far : read_from (saids_of l.rest) l.next (state l.seen) ≡ flow_of l.bytes;
+  small : AreSmall (state l.seen);
+  number : l.next + length l.rest ≤ length l.bytes + 1;
+}
+
+abbrev pub decreases-loop-rest : goal.decreases-loop-rest
+decreases-loop-rest l = length l.rest
