@@ -1,0 +1,12 @@
+pub mod Putting
+pub mod IterationEntries
+pub mod Steps
+pub mod Sound
+pub mod GateTurns
+pub mod Bodies
+pub mod Turns
+pub mod Quiet
+pub mod SoundIsSerial
+pub mod Runs
+pub mod InOrder
+pub mod Tidy
