@@ -10,3 +10,7 @@ pub mod SoundIsSerial
 pub mod Runs
 pub mod InOrder
 pub mod Tidy
+pub mod Lone
+pub mod InWay
+pub mod EventLemmas
+pub mod Theorems
