@@ -2,10 +2,10 @@
 use Rattle.std.specs.Prelude.{◌≡◌, List, [], ◌∷◌, ◌++◌, ⊤, refl}
 use Rattle.gx_base.specs.declared.items.Item.{Item}
 use Rattle.gx_base.specs.Meanings.{IsCall}
-use Rattle.gx_base.specs.Plans.{Plan, Call, Push, Done, Operator}
+use Rattle.gx_base.specs.Plans.{Plan, Call, Push, Done}
 use Rattle.gx_base.specs.BodyRuns.{pushed}
 use Rattle.gx_base.specs.SerialRuns.{IsRunOf}
-use Rattle.speculation.specs.Sessions.{Session, Phase, Idle, Running, Finished, Undoing, Ahead, Asks, Ends, ahead}
+use Rattle.speculation.specs.Sessions.{Session, Running, Finished, Ahead, Asks, Ends, ahead}
 use Rattle.speculation.specs.Premises.{IsNextCall}
 use Rattle.speculation.proofs.Sound.{IsSoFar}
 

@@ -1,5 +1,5 @@
 -- In each turn the event of the machine happens by the table, and no other does.
-use Rattle.std.specs.Prelude.{◌≡◌, ◌⊎◌, ℕ, Bool, true, false, not, ◌&&◌, ◌||◌, if◌then◌else◌, Option, Some, None, List, [], ◌∷◌, length, refl}
+use Rattle.std.specs.Prelude.{◌≡◌, ℕ, Bool, true, false, not, ◌&&◌, ◌||◌, if◌then◌else◌, Option, Some, None, List, [], ◌∷◌, length, refl}
 use Rattle.std.proofs.Common.{sym, ◌∙◌, ap, subst, inl, inr}
 use Rattle.gx_base.specs.declared.calls.Call.{Call as CallOf}
 use Rattle.gx_base.specs.declared.calls.Reply.{Reply}
@@ -14,11 +14,11 @@ use Rattle.commit_book.specs.BookViews.{free_item, is_named}
 use Rattle.speculation.specs.Events.{Event, Turn, then_turn}
 use Rattle.speculation.specs.Events as event
 use Rattle.speculation.specs.Sessions.{Session, Phase, Idle, Running, Finished, Undoing, Ahead, Asks, Ends, ahead, last_step}
-use Rattle.speculation.specs.Machines.{Machine, Place, place_of, settled, reply_in, named_off, given_up, committed, Turned, take, live_at, answer, entry_of, ask, undo_step, undo, finish, go, turn_in, turn_at, turn}
-use Rattle.speculation.specs.EventRows.{IsFirstInWay, IsAsking, IsFinished, IsFinishedAnd, HasToUndo, Happens}
+use Rattle.speculation.specs.Machines.{Machine, Place, place_of, settled, reply_in, named_off, given_up, committed, Turned, take, live_at, answer, entry_of, undo_step, undo, finish, go, turn_in, turn_at, turn}
+use Rattle.speculation.specs.EventRows.{IsFirstInWay, IsAsking, IsFinished, HasToUndo, Happens}
 use Rattle.speculation.specs.ScheduledRuns.{is_empty, Run, then_turned, scheduled}
 use Rattle.speculation.specs.RunResults.{IsScheduledRun}
-use Rattle.speculation.proofs.Putting.{no_bool, both_are}
+use Rattle.speculation.proofs.Putting.{both_are}
 use Rattle.speculation.proofs.Steps.{last_is_none}
 use Rattle.speculation.proofs.InWay.{none_in_way, nothing_found, first_in_way, found_in_way, held_in_way}
 use Rattle.speculation.proofs.Turns.{settled_itself}

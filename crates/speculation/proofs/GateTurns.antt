@@ -12,7 +12,7 @@ use Rattle.gx_base.specs.Meanings.{IsCall}
 use Rattle.gx_base.specs.Steps.{reply_to}
 use Rattle.gx_base.specs.Replays.{part, made_by}
 use Rattle.gx_base.proofs.CallerLemmas.{part-append}
-use Rattle.gate_core.specs.Entries.{Each, made_of, mades_of, is_of, entries_of, others_than, has_entry, last_of, without_last, done_under}
+use Rattle.gate_core.specs.Entries.{made_of, mades_of, is_of, entries_of, has_entry, last_of, without_last, done_under}
 use Rattle.gate_core.specs.Views.{GateView, asked_entry, in_way, admit, undo_entry, undo_last, release}
 use Rattle.gate_core.proofs.CallerLemmas.{mades_of-append, mades_of-under, each_append, each_filter, each_without}
 use Rattle.gate_core.proofs.lawful.KeptLawful.{Kept, admit_keeps, undo_keeps, release_keeps}

@@ -1,5 +1,5 @@
 -- The first uncommitted entry that is in the way of a call, as the search of a gate finds it, and as the table of events has it.
-use Rattle.std.specs.Prelude.{◌≡◌, ℕ, zero, suc, ◌+◌, ◌<◌, Bool, true, false, if◌then◌else◌, Option, Some, None, List, [], ◌∷◌, length, slice_get, slice_index_or, take, refl}
+use Rattle.std.specs.Prelude.{◌≡◌, ℕ, zero, suc, ◌+◌, ◌<◌, Bool, true, false, if◌then◌else◌, Option, Some, None, List, [], ◌∷◌, slice_get, slice_index_or, take, refl}
 use Rattle.std.proofs.Common.{sym, ◌∙◌, ap, subst, arith}
 use Rattle.gx_base.specs.declared.acts.Entry.{Entry}
 use Rattle.gx_base.specs.States.{State}
@@ -7,9 +7,8 @@ use Rattle.gx_base.specs.Steps.{next_state}
 use Rattle.gx_base.specs.Tables.{Rows}
 use Rattle.gate_core.specs.Replays.{after, pair_ok, further, first_failing}
 use Rattle.gate_core.specs.Views.{GateView, rows_of, live_start, in_way}
-use Rattle.speculation.specs.EventRows.{may_stand, NoneInWay, IsFirstInWay}
+use Rattle.speculation.specs.EventRows.{NoneInWay, IsFirstInWay}
 use Rattle.speculation.specs.Machines.{live_at}
-use Rattle.speculation.proofs.Putting.{no_bool}
 
 some_same : {A : Type 0} {x y : A} → Some x ≡ Some y → x ≡ y
 some_same e = cc

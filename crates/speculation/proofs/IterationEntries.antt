@@ -1,13 +1,12 @@
 -- The entries of iterations in a list of entries, as it changes.
-use Rattle.std.specs.Prelude.{◌≡◌, ℕ, Bool, true, false, not, ◌&&◌, ◌||◌, ◌==◌, if◌then◌else◌, Option, Some, None, List, [], ◌∷◌, ◌++◌, filter, refl}
-use Rattle.std.proofs.Common.{sym, ◌∙◌, ap, subst}
+use Rattle.std.specs.Prelude.{◌≡◌, ℕ, Bool, true, false, not, ◌&&◌, ◌||◌, ◌==◌, if◌then◌else◌, Option, Some, None, List, [], ◌∷◌, ◌++◌, refl}
+use Rattle.std.proofs.Common.{sym, ◌∙◌, ap}
 use Rattle.std.proofs.lemmas.List.Elements.{filter-append}
 use Rattle.gx_base.specs.declared.items.Item.{Item}
 use Rattle.gx_base.specs.declared.acts.Entry.{Entry}
-use Rattle.gx_base.specs.declared.calls.Made.{Made}
 use Rattle.gate_core.specs.Entries.{made_of, mades_of, is_of, entries_of, others_than, has_entry, last_of, without_last, Each}
 use Rattle.gate_core.proofs.CallerLemmas.{numbers_of}
-use Rattle.speculation.proofs.Putting.{no_bool, same_number, numbers_equal}
+use Rattle.speculation.proofs.Putting.{no_bool, same_number}
 
 pub some_same : {A : Type 0} {x y : A} → Some x ≡ Some y → x ≡ y
 some_same e = cc

@@ -1,5 +1,5 @@
 -- Worker 0 alone meets no conflict and never waits, so it commits one item after another.
-use Rattle.std.specs.Prelude.{◌≡◌, ◌⊎◌, ℕ, zero, suc, ◌+◌, ◌≤◌, Bool, true, false, not, ◌&&◌, ◌||◌, ◌==◌, if◌then◌else◌, Option, Some, None, List, [], ◌∷◌, ◌++◌, length, refl, ⊤}
+use Rattle.std.specs.Prelude.{◌≡◌, ◌⊎◌, ℕ, zero, suc, ◌+◌, ◌≤◌, Bool, true, false, not, ◌&&◌, ◌||◌, ◌==◌, if◌then◌else◌, Option, Some, None, List, [], ◌∷◌, ◌++◌, length, refl}
 use Rattle.std.proofs.Common.{sym, ◌∙◌, ap, subst, inl, inr, arith}
 use Rattle.gx_base.specs.declared.calls.Call.{Call as CallOf}
 use Rattle.gx_base.specs.declared.calls.Reply.{Reply}
@@ -11,16 +11,16 @@ use Rattle.gx_base.specs.Replays.{put}
 use Rattle.gx_base.specs.SerialIterations.{may_commit}
 use Rattle.gx_base.specs.Worklists.{has_item, is_least}
 use Rattle.gate_core.specs.Entries.{Each, is_of, entries_of, others_than}
-use Rattle.gate_core.specs.Views.{GateView, rows_of, live_start, asked_entry, in_way, admit}
+use Rattle.gate_core.specs.Views.{rows_of, live_start, asked_entry, in_way}
 use Rattle.gate_core.proofs.CallerLemmas.{none_in_way}
 use Rattle.gate_core.proofs.lists.EntryLists.{both_true}
-use Rattle.commit_book.specs.BookViews.{Hold, free_item, first_free, with_hold, without_iteration, is_named}
+use Rattle.commit_book.specs.BookViews.{Hold, first_free, with_hold, without_iteration, is_named}
 use Rattle.commit_book.proofs.ready.ReadySets.{has_item-first}
 use Rattle.speculation.specs.Events as event
-use Rattle.speculation.specs.Sessions.{Session, Phase, Idle, Running, Finished, Undoing, is_idle, begun_on, ended, at_plan, at_end, with_call, Ahead, Asks, Ends, ahead}
-use Rattle.speculation.specs.Machines.{Machine, place_of, settled, reply_in, called, given_up, committed, Turned, take, answer, entry_of, undo, finish, go, turn_in, turn_at, turn}
+use Rattle.speculation.specs.Sessions.{Session, Phase, Idle, Running, Finished, Undoing, is_idle, begun_on, ended, with_call, Ahead, Asks, Ends, ahead}
+use Rattle.speculation.specs.Machines.{Machine, place_of, settled, reply_in, given_up, committed, Turned, take, answer, entry_of, undo, go, turn_in, turn_at, turn}
 use Rattle.speculation.specs.ScheduledRuns.{is_empty, alone}
-use Rattle.speculation.specs.Premises.{IsInOrder, IsNextCall, AsksCall, AloneAsk}
+use Rattle.speculation.specs.Premises.{IsInOrder, AloneAsk}
 use Rattle.speculation.proofs.Putting.{no_bool, both_are, put_same, put_other, put_holds, same_number, numbers_equal}
 use Rattle.speculation.proofs.IterationEntries.{IsCurrent, current_of, none_first}
 use Rattle.speculation.proofs.InOrder.{least_first, not_empty_set}

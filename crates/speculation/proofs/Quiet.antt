@@ -12,8 +12,8 @@ use Rattle.gx_base.specs.Worklists.{has_item, is_before, is_least}
 use Rattle.gate_core.specs.Views.{in_way, undo_last}
 use Rattle.commit_book.specs.BookViews.{free_item, put_back, is_named}
 use Rattle.speculation.specs.Events as event
-use Rattle.speculation.specs.Sessions.{Session, Phase, Idle, Running, Finished, Undoing, begun_on, ended, with_call, undoing, undone_to, Ahead, Asks, Ends, ahead, last_step, steps_before, has_no_step, is_idle}
-use Rattle.speculation.specs.Machines.{Machine, Place, place_of, settled, taken, named_off, let_go, given_up, committed, Turned, take, conflict, live_at, answer, entry_of, undo_step, undo, finish, go, turn_in, turn_at, turn}
+use Rattle.speculation.specs.Sessions.{Session, Phase, Idle, Running, Finished, Undoing, ended, undoing, undone_to, Ahead, Asks, Ends, ahead, last_step, steps_before, has_no_step, is_idle}
+use Rattle.speculation.specs.Machines.{Machine, Place, place_of, settled, taken, named_off, let_go, given_up, committed, Turned, take, live_at, answer, entry_of, undo_step, undo, finish, go, turn_in, turn_at, turn}
 use Rattle.speculation.proofs.Putting.{put_same, put_other}
 
 module _ (op : Operator) (m : Machine) (worker : ℕ) where

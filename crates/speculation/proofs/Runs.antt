@@ -1,5 +1,5 @@
 -- Whole runs stay sound, and end with all workers idle.
-use Rattle.std.specs.Prelude.{◌≡◌, ◌⊎◌, ℕ, zero, suc, ◌<◌, ◌≤◌, Bool, true, false, ◌==◌, if◌then◌else◌, Option, Some, None, List, [], ◌∷◌, ◌++◌, length, refl}
+use Rattle.std.specs.Prelude.{◌≡◌, ◌⊎◌, ℕ, zero, suc, ◌<◌, ◌≤◌, Bool, true, false, ◌==◌, if◌then◌else◌, Option, Some, None, List, [], ◌∷◌, length, refl}
 use Rattle.std.proofs.Common.{sym, ◌∙◌, ap, subst, inl, inr, arith}
 use Rattle.std.proofs.Math.Nat.{eq-or-lt_of_le}
 use Rattle.gx_base.specs.States.{State}
@@ -10,7 +10,7 @@ use Rattle.gx_base.specs.Replays.{put}
 use Rattle.gate_core.specs.Views.{undo_last}
 use Rattle.commit_book.specs.BookViews.{put_back}
 use Rattle.speculation.specs.Sessions.{Session, is_idle, ended, undone_to, last_step, steps_before, has_no_step}
-use Rattle.speculation.specs.Machines.{Machine, Place, place_of, settled, let_go, undo_step, undo, turn_at, turn}
+use Rattle.speculation.specs.Machines.{Machine, place_of, settled, let_go, undo_step, undo, turn_at, turn}
 use Rattle.speculation.specs.ScheduledRuns.{is_empty, Run, begun, then_turned, scheduled, drain_step, drain_steps, drain_worker, drain, alone, drained, played, AllBelow}
 use Rattle.speculation.specs.Premises.{IsNew, ScheduledAsk, AloneAsk, AsksCalls}
 use Rattle.speculation.specs.RunResults.{object_states}
@@ -18,7 +18,7 @@ use Rattle.speculation.proofs.Putting.{no_bool, put_same, numbers_equal, same_nu
 use Rattle.speculation.proofs.Steps.{is_none, last_is_last, fewer_before}
 use Rattle.speculation.proofs.Bodies.{Same}
 use Rattle.speculation.proofs.Sound.{SoundMachine}
-use Rattle.speculation.proofs.Turns.{gives_up, lets_go, undoes, turn_is_sound}
+use Rattle.speculation.proofs.Turns.{lets_go, undoes, turn_is_sound}
 use Rattle.speculation.proofs.Quiet.{quiet, quiet_undo, quiet_let_go}
 use Rattle.speculation.proofs.SoundIsSerial.{new_is_sound}
 

@@ -1,12 +1,10 @@
 -- What holds of the machine between any two turns.
-use Rattle.std.specs.Prelude.{◌≡◌, ℕ, ◌≤◌, length, List, [], ◌++◌, ⊤}
-use Rattle.gx_base.specs.declared.calls.Reply.{Reply}
-use Rattle.gx_base.specs.declared.calls.Call.{Call as CallOf}
+use Rattle.std.specs.Prelude.{◌≡◌, ℕ, ◌≤◌, length, List, [], ⊤}
 use Rattle.gx_base.specs.declared.items.Item.{Item}
 use Rattle.gx_base.specs.declared.acts.Entry.{Entry}
 use Rattle.gx_base.specs.declared.acts.Step.{Step}
 use Rattle.gx_base.specs.States.{State}
-use Rattle.gx_base.specs.Plans.{Plan, Call, Done, Operator}
+use Rattle.gx_base.specs.Plans.{Plan, Operator}
 use Rattle.gx_base.specs.BodyRuns.{RunsTo}
 use Rattle.gx_base.specs.Outcomes.{Outcome, journal}
 use Rattle.gx_base.specs.Replays.{part}
@@ -14,7 +12,7 @@ use Rattle.gx_base.specs.SerialRuns.{AreInTurn, IsRunOf, AreRunsOf}
 use Rattle.gate_core.specs.Entries.{Each, mades_of, entries_of}
 use Rattle.gate_core.specs.Views.{GateView, start, IsLawfulGate}
 use Rattle.commit_book.specs.BookViews.{BookView}
-use Rattle.speculation.specs.Sessions.{Session, Phase, Idle, Running, Finished, Undoing, Ahead, Asks, Ends}
+use Rattle.speculation.specs.Sessions.{Session, Phase, Idle, Running, Finished, Undoing}
 use Rattle.speculation.specs.Machines.{Machine}
 use Rattle.speculation.proofs.IterationEntries.{IsCurrent}
 

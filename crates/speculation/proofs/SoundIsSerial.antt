@@ -1,5 +1,5 @@
 -- A sound machine's commits are a serial run, and of an aborted iteration it has no trace.
-use Rattle.std.specs.Prelude.{◌≡◌, ℕ, ◌≤◌, ◌==◌, length, Bool, true, false, List, [], ◌∷◌, ◌++◌, refl}
+use Rattle.std.specs.Prelude.{◌≡◌, ℕ, ◌≤◌, length, Bool, true, false, List, [], ◌∷◌, ◌++◌, refl}
 use Rattle.std.proofs.Common.{sym, ◌∙◌, ap, subst, arith}
 use Rattle.gx_base.specs.declared.items.Item.{Item}
 use Rattle.gx_base.specs.declared.acts.Entry.{Entry}
@@ -7,19 +7,19 @@ use Rattle.gx_base.specs.declared.acts.Step.{Step}
 use Rattle.gx_base.specs.declared.calls.Made.{Made}
 use Rattle.gx_base.specs.States.{State}
 use Rattle.gx_base.specs.Plans.{Operator}
-use Rattle.gx_base.specs.Outcomes.{Outcome, nothing_done, Commit as WholeCommit, journal}
+use Rattle.gx_base.specs.Outcomes.{Outcome, nothing_done, journal}
 use Rattle.gx_base.specs.Replays.{part, Legal}
 use Rattle.gx_base.specs.SerialRuns.{IsSerialRun, AreInTurn, AreRunsOf}
 use Rattle.gx_base.proofs.CallerLemmas.{Replays-merged, IsSerialRun-runs}
 use Rattle.gate_core.specs.Entries.{Each, mades_of, entries_of, mark_of}
 use Rattle.gate_core.specs.Replays.{start_of}
-use Rattle.gate_core.specs.Views.{GateView, live_start, start}
+use Rattle.gate_core.specs.Views.{GateView, live_start}
 use Rattle.gate_core.proofs.lawful.GateLaws.{replayed}
 use Rattle.speculation.specs.Sessions.{Session, Phase, Idle, Running, Finished, Undoing, is_idle}
 use Rattle.speculation.specs.Machines.{Machine}
 use Rattle.speculation.specs.Premises.{IsNewGate, IsNew}
 use Rattle.speculation.specs.RunResults.{object_states, committed_states, end_in, IsOfLiveIteration, HasNoTraceOfAborted}
-use Rattle.speculation.proofs.Putting.{no_bool, same_number}
+use Rattle.speculation.proofs.Putting.{same_number}
 use Rattle.speculation.proofs.IterationEntries.{IsCurrent, none_first, nobody, no_mades}
 use Rattle.speculation.proofs.Sound.{SoundGate, SoundLog, SoundPhase, SoundMachine}
 

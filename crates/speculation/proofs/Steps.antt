@@ -1,6 +1,6 @@
 -- The last of some steps, and those before it.
-use Rattle.std.specs.Prelude.{◌≡◌, suc, ◌<◌, true, Some, None, List, [], ◌∷◌, ◌++◌, length, refl}
-use Rattle.std.proofs.Common.{sym, ◌∙◌, ap, subst, arith}
+use Rattle.std.specs.Prelude.{◌≡◌, suc, true, Some, None, List, [], ◌∷◌, ◌++◌, length, refl}
+use Rattle.std.proofs.Common.{sym, ◌∙◌, ap}
 use Rattle.gx_base.specs.declared.acts.Step.{Step}
 use Rattle.speculation.specs.Sessions.{last_step, steps_before, has_no_step}
 

@@ -1,11 +1,11 @@
 -- What every run of the speculative machine gives.
 use Rattle.std.specs.Prelude.{◌≡◌, ℕ, length, true, List, [], refl}
-use Rattle.std.proofs.Common.{sym, ap, subst, arith}
+use Rattle.std.proofs.Common.{subst, arith}
 use Rattle.gx_base.specs.Plans.{Operator}
 use Rattle.gx_base.specs.SerialRuns.{IsSerialRun}
 use Rattle.gate_core.specs.Replays.{start_of}
 use Rattle.speculation.specs.Machines.{Machine}
-use Rattle.speculation.specs.ScheduledRuns.{is_empty, Run, begun, scheduled, drained, alone, played, AllBelow}
+use Rattle.speculation.specs.ScheduledRuns.{is_empty, begun, scheduled, drained, played, AllBelow}
 use Rattle.speculation.specs.Premises.{IsNew, ScheduledAsk, AsksCalls}
 use Rattle.speculation.specs.RunResults.{object_states, end_in, IsSerialInTheEnd, EndsOrCommits, HasNoTraceOfAborted}
 use Rattle.speculation.proofs.Sound.{SoundMachine}

@@ -13,8 +13,8 @@ use Rattle.gate_core.specs.Views.{GateView, in_way, undo_last}
 use Rattle.commit_book.specs.BookViews.{Hold, is_hold_of, with_hold, without_iteration, without_item_held, with_name, free_item, put_back, is_named}
 use Rattle.commit_book.proofs.ready.ReadySets.{same_itself}
 use Rattle.speculation.specs.Events as event
-use Rattle.speculation.specs.Sessions.{Session, Phase, Idle, Running, Finished, Undoing, is_idle, begun_on, ended, with_call, undoing, undone_to, Ahead, Asks, Ends, ahead, last_step, steps_before, has_no_step}
-use Rattle.speculation.specs.Machines.{Machine, Place, place_of, settled, taken, named_off, let_go, given_up, committed, Turned, take, live_at, answer, entry_of, undo_step, undo, finish, go, turn_in, turn_at, turn}
+use Rattle.speculation.specs.Sessions.{Session, Phase, Idle, Running, Finished, Undoing, is_idle, begun_on, ended, undoing, undone_to, Ahead, Asks, Ends, ahead, last_step, steps_before, has_no_step}
+use Rattle.speculation.specs.Machines.{Machine, Place, place_of, settled, named_off, let_go, given_up, committed, Turned, take, live_at, answer, entry_of, undo_step, undo, finish, go, turn_in, turn_at, turn}
 use Rattle.speculation.specs.ScheduledRuns.{is_empty, Run, then_turned, scheduled, drain_step, drain_steps, drain_worker, drain}
 use Rattle.speculation.specs.Premises.{IsInOrder, IsNew}
 use Rattle.speculation.proofs.Putting.{no_bool, put_same, same_number, numbers_equal}

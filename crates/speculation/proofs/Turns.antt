@@ -1,6 +1,6 @@
 -- Each turn keeps the machine sound.
 use Rattle.std.specs.Prelude.{◌≡◌, ℕ, suc, ◌≤◌, Bool, true, false, not, ◌&&◌, ◌||◌, ◌==◌, if◌then◌else◌, Option, Some, None, List, [], ◌∷◌, ◌++◌, length, refl}
-use Rattle.std.proofs.Common.{sym, ◌∙◌, ap, subst, arith}
+use Rattle.std.proofs.Common.{sym, ◌∙◌, ap, subst}
 use Rattle.std.proofs.lemmas.List.{append_assoc, append-nil}
 use Rattle.gx_base.specs.declared.calls.Call.{Call as CallOf}
 use Rattle.gx_base.specs.declared.calls.Reply.{Reply}
@@ -12,21 +12,21 @@ use Rattle.gx_base.specs.Meanings.{IsCall}
 use Rattle.gx_base.specs.Steps.{reply_to}
 use Rattle.gx_base.specs.Plans.{Plan, Call, Operator}
 use Rattle.gx_base.specs.BodyRuns.{begun, called}
-use Rattle.gx_base.specs.Outcomes.{Outcome, Commit as WholeCommit, journal}
+use Rattle.gx_base.specs.Outcomes.{Commit as WholeCommit, journal}
 use Rattle.gx_base.specs.Replays.{put}
 use Rattle.gx_base.specs.SerialIterations.{may_commit, ready_after}
 use Rattle.gx_base.specs.SerialRuns.{AreInTurn, IsRunOf, AreRunsOf}
 use Rattle.gx_base.specs.Worklists.{has_item, is_before, is_least}
-use Rattle.gate_core.specs.Entries.{Each, mades_of, entries_of}
+use Rattle.gate_core.specs.Entries.{mades_of, entries_of}
 use Rattle.gate_core.specs.Views.{GateView, asked_entry, in_way, admit, undo_last, release}
 use Rattle.commit_book.specs.BookViews.{BookView, Hold, free_item, without_iteration, with_hold, with_name, is_named}
 use Rattle.speculation.specs.Events.{Event}
 use Rattle.speculation.specs.Events as event
 use Rattle.speculation.specs.Sessions.{Session, Phase, Idle, Running, Finished, Undoing, begun_on, ended, with_call, undoing, undone_to, Ahead, Asks, Ends, ahead, last_step, steps_before, has_no_step}
-use Rattle.speculation.specs.Machines.{Machine, Place, place_of, settled, taken, called as called_at, named_off, let_go, given_up, undone, committed, Turned, take, conflict, live_at, answer, entry_of, ask, undo_step, undo, finish, go, turn_in, turn_at, turn}
-use Rattle.speculation.specs.Premises.{IsNextCall, AsksCall}
+use Rattle.speculation.specs.Machines.{Machine, place_of, settled, called as called_at, named_off, let_go, given_up, committed, Turned, take, live_at, answer, entry_of, undo_step, undo, finish, go, turn_in, turn_at, turn}
+use Rattle.speculation.specs.Premises.{AsksCall}
 use Rattle.speculation.proofs.Putting.{put_holds, put_itself, both_are}
-use Rattle.speculation.proofs.IterationEntries.{IsCurrent, Fresh, fresh, no_mades}
+use Rattle.speculation.proofs.IterationEntries.{Fresh, fresh, no_mades}
 use Rattle.speculation.proofs.Steps.{is_none, last_is_none, last_is_last}
 use Rattle.speculation.proofs.Sound.{SoundGate, SoundLog, SoundLogOf, IsSoFar, SoundPhase, SoundBook, SoundMachine}
 use Rattle.speculation.proofs.Bodies.{Same, ComesTo, comes_to, IsAskedCall, next_is_asked}
