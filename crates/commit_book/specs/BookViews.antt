@@ -1,7 +1,7 @@
 -- A book as plain data: what is ready, who holds which item, and what has committed; and what each call makes of it.
 use Rattle.std.specs.Prelude.{ℕ, ◌+◌, Bool, true, false, not, ◌&&◌, ◌||◌, ◌==◌, nat_lt, if◌then◌else◌, Option, Some, None, List, [], ◌∷◌, ◌++◌, length}
 use Rattle.gx_base.specs.declared.items.Item.{Item}
-use Rattle.gx_base.specs.Outcomes.{Outcome, Commit as WholeCommit, journal}
+use Rattle.gx_base.specs.Outcomes.{Outcome, WholeCommit, journal}
 use Rattle.gx_base.specs.SerialIterations.{may_commit, ready_after}
 use Rattle.gx_base.specs.Worklists.{same_item, is_before, has_item, with_items}
 

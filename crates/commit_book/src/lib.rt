@@ -2,13 +2,13 @@
 //! another on plain objects.
 #![tactic(auto)]
 
+mod body_log;
 mod operator;
-mod outcome;
 mod serial;
 mod worklist;
 
+pub use body_log::BodyLog;
 pub use gx_base::{Act, Commit, Step};
 pub use operator::Operator;
-pub use outcome::Outcome;
 pub use serial::{MOST_COMMITS, SerialStop, commit_item, order_is_determined, run_serially};
 pub use worklist::Worklist;

@@ -12,7 +12,7 @@ use Rattle.gx_base.specs.Meanings.{IsCall}
 use Rattle.gx_base.specs.Steps.{reply_to}
 use Rattle.gx_base.specs.Plans.{Plan, Call, Operator}
 use Rattle.gx_base.specs.BodyRuns.{begun, called}
-use Rattle.gx_base.specs.Outcomes.{Commit as WholeCommit, journal}
+use Rattle.gx_base.specs.Outcomes.{WholeCommit, journal}
 use Rattle.gx_base.specs.Replays.{put}
 use Rattle.gx_base.specs.SerialIterations.{may_commit, ready_after}
 use Rattle.gx_base.specs.SerialRuns.{AreInTurn, IsRunOf, AreRunsOf}
