@@ -14,3 +14,5 @@ pub mod Lone
 pub mod InWay
 pub mod EventLemmas
 pub mod Theorems
+pub mod PlanCalls
+pub mod CallerLemmas

@@ -154,7 +154,7 @@ module _ (op : Operator) (starts : ℕ → State) (first : List Item) where
       inr (finishes_by m s (is_named m.book 0 s.iter) (has_item m.book.ready s.item) (not m.book.ordered || is_least m.book.ready s.item)
       (ap (λ j. is_named m.book 0 j) (sym f.iter) ∙ w.not_named) (ap (has_item m.book.ready) (sym f.item) ∙ p.0) (ap (λ y. not m.book.ordered || is_least m.book.ready y) (sym f.item) ∙ p.1) w.others)
 
-  works_on : (m : Machine) (plan : Plan) → Sound m → Works m plan → Goes (turn op m 0) (length m.book.commits) plan
+  pub works_on : (m : Machine) (plan : Plan) → Sound m → Works m plan → Goes (turn op m 0) (length m.book.commits) plan
   unfolding turn_at
   works_on m plan h w =
       subst (λ p. Goes (settled m 0 (turn_in op (place_of m 0) 0 p).place) (length m.book.commits) plan) (sym w.phase)
@@ -201,7 +201,7 @@ module _ (op : Operator) (starts : ℕ → State) (first : List Item) where
   takes m item items e t i Finished r = absurd (no_bool false r refl)
   takes m item items e t i Undoing r = absurd (no_bool false r refl)
 
-  takes_turn : (m : Machine) (item : Item) (items : List Item) → m.book.ready ≡ item ∷ items → IsTidy m → ((v : ℕ) → IdleAt m v) → Begins (turn op m 0) (length m.book.commits)
+  pub takes_turn : (m : Machine) (item : Item) (items : List Item) → m.book.ready ≡ item ∷ items → IsTidy m → ((v : ℕ) → IdleAt m v) → Begins (turn op m 0) (length m.book.commits)
   unfolding turn_at
   takes_turn m item items e t i = takes m item items e t i (m.sessions 0).phase (i 0)
 

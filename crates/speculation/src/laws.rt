@@ -3,10 +3,11 @@
 
 ghost use Rattle.std.specs.Prelude.{◌≡◌, ℕ, List};
 ghost use Rattle.gx_base.specs.Plans.{Operator};
+ghost use Rattle.gx_base.specs.declared.items.Item.{Item};
 ghost use Rattle.speculation.specs.EventRows.{Happens};
 ghost use Rattle.speculation.specs.Events.{Event};
 ghost use Rattle.speculation.specs.Machines.{Machine, place_of, turn_at, turn};
-ghost use Rattle.speculation.specs.Premises.{IsNew, ScheduledAsk, AsksCalls};
+ghost use Rattle.speculation.specs.Premises.{IsNew, HasOnlyCalls, ScheduledAsk, AsksCalls};
 ghost use Rattle.speculation.specs.RunResults.{IsSerialInTheEnd, EndsOrCommits, HasNoTraceOfAborted, IsScheduledRun};
 ghost use Rattle.speculation.specs.ScheduledRuns.{Run, begun, scheduled, played, AllBelow};
 
@@ -21,6 +22,12 @@ pub fn runs_are_serial()
 pub fn runs_end()
     ensures { (op : Operator) (m : Machine) (workers : ℕ) (schedule : List ℕ) (count : ℕ) → IsNew op m → AllBelow schedule workers → ((turns : ℕ) → AsksCalls op m workers schedule turns)
         → EndsOrCommits count op m workers schedule }
+{}
+
+/// Where the plans of an operator have only calls with numbers of 64 bits, its runs ask no others. The
+/// calls of code have such numbers in each turn that is made, whatever its plan says of other replies.
+pub fn plans_of_calls_ask_calls()
+    ensures { (op : Operator) (m : Machine) (workers : ℕ) (schedule : List ℕ) (turns : ℕ) → IsNew op m → ((item : Item) → HasOnlyCalls (op.plan item)) → AsksCalls op m workers schedule turns }
 {}
 
 /// At each moment of the scheduled turns, and after them, an aborted iteration has left no trace.
