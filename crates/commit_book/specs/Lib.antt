@@ -1,3 +1,4 @@
+pub mod BookViews
 pub mod Commits
 pub mod Moves
 pub mod SerialRuns

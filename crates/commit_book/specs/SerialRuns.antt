@@ -8,14 +8,11 @@ use Rattle.gx_base.specs.Outcomes.{Outcome, WholeCommit}
 use Rattle.gx_base.specs.SerialIterations.{Ended, serial, least_first}
 use Rattle.gx_base.specs.SerialRuns.{IsSerialRun, IsLeastFirst, IsByOneWorker, all_counted}
 use Rattle.commit_book.specs.declared.operator.Operator.{Ghosts}
+pub use Rattle.commit_book.specs.BookViews.{most_commits}
 
 -- an operator of the code, as plain data
 abbrev pub operator_of : {Self St : Type 0} → Ghosts Self St → Self → Operator
 operator_of bound op = record { ordered = bound.is_ordered op; rooms = bound.room_count op; plan = bound.plan op }
-
--- how many items commit at most
-abbrev pub most_commits : ℕ
-most_commits = 4194304
 
 -- there are commits that are a serial run with this end, each of the least ready item at its turn, all by worker 0, and
 -- they are told with the numbers of their steps

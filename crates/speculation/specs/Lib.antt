@@ -1,0 +1,7 @@
+pub mod Events
+pub mod Sessions
+pub mod Machines
+pub mod EventRows
+pub mod ScheduledRuns
+pub mod Premises
+pub mod RunResults

@@ -1,0 +1,52 @@
+//! Laws of the speculative machine, over its definitions alone. A caller of one of these empty functions
+//! may use what it ensures.
+
+ghost use Rattle.std.specs.Prelude.{◌≡◌, ℕ, List};
+ghost use Rattle.gx_base.specs.Plans.{Operator};
+ghost use Rattle.gx_base.specs.declared.items.Item.{Item};
+ghost use Rattle.speculation.specs.EventRows.{Happens};
+ghost use Rattle.speculation.specs.Events.{Event};
+ghost use Rattle.speculation.specs.Machines.{Machine, place_of, turn_at, turn};
+ghost use Rattle.speculation.specs.Premises.{IsNew, HasOnlyCalls, ScheduledAsk, AsksCalls};
+ghost use Rattle.speculation.specs.RunResults.{IsSerialInTheEnd, EndsOrCommits, HasNoTraceOfAborted, IsScheduledRun};
+ghost use Rattle.speculation.specs.ScheduledRuns.{Run, begun, scheduled, played, AllBelow};
+
+/// Every run is serial: the scheduled turns, the drain, and worker 0 alone for at most so many turns.
+pub fn runs_are_serial()
+    ensures { (op : Operator) (m : Machine) (workers : ℕ) (schedule : List ℕ) (turns : ℕ) → IsNew op m → AllBelow schedule workers → AsksCalls op m workers schedule turns
+        → IsSerialInTheEnd op m (played op m workers schedule turns).machine }
+{}
+
+/// Every run ends: worker 0 alone leaves nothing ready, or commits as many items as one likes. The machine
+/// knows no limits; where a run has to stop at a number of commits or of steps, it gets there.
+pub fn runs_end()
+    ensures { (op : Operator) (m : Machine) (workers : ℕ) (schedule : List ℕ) (count : ℕ) → IsNew op m → AllBelow schedule workers → ((turns : ℕ) → AsksCalls op m workers schedule turns)
+        → EndsOrCommits count op m workers schedule }
+{}
+
+/// Where the plans of an operator have only calls with numbers of 64 bits, its runs ask no others. The
+/// calls of code have such numbers in each turn that is made, whatever its plan says of other replies.
+pub fn plans_of_calls_ask_calls()
+    ensures { (op : Operator) (m : Machine) (workers : ℕ) (schedule : List ℕ) (turns : ℕ) → IsNew op m → ((item : Item) → HasOnlyCalls (op.plan item)) → AsksCalls op m workers schedule turns }
+{}
+
+/// At each moment of the scheduled turns, and after them, an aborted iteration has left no trace.
+pub fn aborted_iterations_leave_no_trace()
+    ensures scheduled { (op : Operator) (m : Machine) (schedule : List ℕ) → IsNew op m → ScheduledAsk op (begun m) schedule → HasNoTraceOfAborted m (scheduled op (begun m) schedule).machine }
+    ensures played { (op : Operator) (m : Machine) (workers : ℕ) (schedule : List ℕ) (turns : ℕ) → IsNew op m → AsksCalls op m workers schedule turns
+        → HasNoTraceOfAborted m (played op m workers schedule turns).machine }
+{}
+
+/// In each turn one event of the table happens, and no other, with one machine after it. So a conflict is
+/// told exactly where a row is false.
+pub fn one_event_happens_in_a_turn()
+    ensures happens { (op : Operator) (m : Machine) (worker : ℕ) → Happens op m worker (turn_at op (place_of m worker) worker).event (turn op m worker) }
+    ensures no_other { (op : Operator) (m : Machine) (worker : ℕ) (event : Event) (next : Machine) → Happens op m worker event next → event ≡ (turn_at op (place_of m worker) worker).event }
+    ensures one_machine { (op : Operator) (m : Machine) (worker : ℕ) (event : Event) (next : Machine) → Happens op m worker event next → next ≡ turn op m worker }
+{}
+
+/// A schedule has one run.
+pub fn a_schedule_has_one_run()
+    ensures is_one { (op : Operator) (r : Run) (schedule : List ℕ) → IsScheduledRun op r schedule (scheduled op r schedule) }
+    ensures no_other { (op : Operator) (r last : Run) (schedule : List ℕ) → IsScheduledRun op r schedule last → last ≡ scheduled op r schedule }
+{}

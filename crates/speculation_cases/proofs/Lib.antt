@@ -1,0 +1,4 @@
+pub mod GivenTurns
+pub mod WrittenRows
+pub mod DiamondTurns
+pub mod SetterTurns

@@ -1,0 +1,3 @@
+pub mod Beginnings
+pub mod Diamond
+pub mod SmallConflict

@@ -1,0 +1,27 @@
+//! The turns of runs that were worked out by hand.
+
+ghost use Rattle.std.specs.Prelude.{◌≡◌};
+ghost use Rattle.gx_base.specs.TableRows.{RowMap};
+ghost use Rattle.gx_base.specs.declared.kinds.Kind.TheVariants.{Cells, Flow};
+ghost use Rattle.preflow_push.specs.Discharge.{discharge_operator};
+ghost use Rattle.speculation.specs.ScheduledRuns.{begun, scheduled, drained};
+ghost use Rattle.speculation_cases.specs.Beginnings.{HasPreciseRows};
+ghost use Rattle.speculation_cases.specs.Diamond.{net, diamond, alternating, turns_of_both, turns_with_drain};
+ghost use Rattle.speculation_cases.specs.SmallConflict.{setters, two_setters, setters_schedule, turns_of_setters};
+
+/// An ordered loop of two bodies that read one cell and then set it: a conflict that names, one that
+/// undoes, and one of an iteration without entries.
+pub fn two_setters_in_conflict()
+    ensures { (table : RowMap) → HasPreciseRows Cells table → (scheduled setters (begun (two_setters table)) setters_schedule).trace ≡ turns_of_setters }
+{}
+
+/// The diamond of four nodes, with two workers that take turns: forty turns, after which nothing is
+/// ready. Both gains of node 4 are admitted beside each other.
+pub fn the_diamond_with_two_workers()
+    ensures { (table : RowMap) → HasPreciseRows Flow table → (scheduled (discharge_operator net) (begun (diamond table)) (alternating 50)).trace ≡ turns_of_both }
+{}
+
+/// The same, cut off after six turns: the calls of both workers are undone, those of worker 0 first.
+pub fn the_drained_diamond()
+    ensures { (table : RowMap) → HasPreciseRows Flow table → (drained (discharge_operator net) (diamond table) 2 (alternating 3)).trace ≡ turns_with_drain }
+{}
