@@ -9,7 +9,12 @@ const ADD: u32 = 0;
 
 const CONTAINS: u32 = 2;
 
-const NOTHING: Reply = Reply::new(0, 0, 0, 0);
+const NOTHING: Reply = Reply {
+    p: 0,
+    q: 0,
+    r: 0,
+    s: 0,
+};
 
 /// An empty set that has no memory for a number, and none at all after some calls.
 #[derive(Drop)]
@@ -79,7 +84,12 @@ fn meagre_gate(alloc: Global, calls: u32) -> Result<Gate<Meagre, ScanScreen>, No
     Ok(Gate::new(alloc, object, Kind::Set, table, screen))
 }
 
-const ITEM: Item = Item::new(7, 0, 0, 0);
+const ITEM: Item = Item {
+    k0: 7,
+    k1: 0,
+    k2: 0,
+    k3: 0,
+};
 
 fn contains(a: i64) -> Call {
     Call::new(CONTAINS, a, 0, 0, 0)

@@ -7,7 +7,12 @@ use kind_tables::laws::tables_below_shipped_ones_are_not_general;
 use std::alloc::Global;
 use std::test::Fail;
 
-const ITEM: Item = Item::new(0, 0, 0, 0);
+const ITEM: Item = Item {
+    k0: 0,
+    k1: 0,
+    k2: 0,
+    k3: 0,
+};
 
 /// A gate on an empty shard. The plain scan can tell the conflicts of every table that flow ships.
 fn precise_gate(alloc: Global) -> Result<Gate<FlowShard, ScanScreen>, NoMemory> {
