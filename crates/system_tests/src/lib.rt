@@ -5,6 +5,8 @@
 #[cfg(test)]
 mod class_cases;
 #[cfg(test)]
+mod flow_file_cases;
+#[cfg(test)]
 mod gate_cases;
 #[cfg(test)]
 mod run_cases;

@@ -172,16 +172,29 @@ fn usage_words(rt: HostRuntime) -> Result<(), Fail> {
     Ok(())
 }
 
+/// How a run of `flow` on this text ended, where it wrote nothing.
+fn refusal(alloc: Global, text: &str) -> Result<Status, Fail> {
+    let run = run_words(alloc, &["flow", "net"], text, NONE)?;
+    if !run.written.is_empty() {
+        return Err("something was written".into());
+    }
+    Ok(run.status)
+}
+
 #[test]
-fn malformed_file(rt: HostRuntime) -> Result<(), Fail> {
-    let run = run_words(
-        rt.alloc(),
-        &["flow", "net"],
-        "p max 2 1\nn 1 s\nn 2 t\na 0 2 5\n",
-        NONE,
-    )?;
-    assert!(rt; run.status == Status::BadInput { line: 0 });
-    assert!(rt; run.written.is_empty());
+fn faulty_flow_lines(rt: HostRuntime) -> Result<(), Fail> {
+    let alloc = rt.alloc();
+    let node = refusal(alloc, "p max 2 1\nn 1 s\nn 2 t\na 0 2 5\n")?;
+    assert!(rt; node == Status::BadInput { line: 4 });
+    let missing = refusal(alloc, "p max 2 2\nn 1 s\nn 2 t\na 1 2 5\n")?;
+    assert!(rt; missing == Status::BadInput { line: 5 });
+    Ok(())
+}
+
+#[test]
+fn too_large(rt: HostRuntime) -> Result<(), Fail> {
+    let nodes = refusal(rt.alloc(), "p max 100001 0\nn 1 s\nn 2 t\n")?;
+    assert!(rt; nodes == Status::TooLarge { what: What::Nodes });
     Ok(())
 }
 
@@ -206,8 +219,8 @@ fn status_lines(rt: HostRuntime) -> Result<(), Fail> {
     assert!(rt;
         tells(
             alloc,
-            Status::BadInput { line: 0 },
-            "galois: line 0: bad input"
+            Status::BadInput { line: 12 },
+            "galois: line 12: bad input"
         )?
     );
     assert!(rt;
