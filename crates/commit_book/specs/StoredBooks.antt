@@ -1,5 +1,5 @@
 -- How a book's holds and its past are kept, as contracts see them.
-use Rattle.std.specs.Prelude.{◌≡◌, ℕ, ◌+◌, false, List, [], ◌∷◌, length, take, drop, ⊤, ⊥}
+use Rattle.std.specs.Prelude.{◌≡◌, ℕ, ◌+◌, false, List, [], ◌∷◌, length, take, drop, ◌≤◌}
 use Rattle.gx_base.specs.declared.acts.Commit.{Commit as Counted}
 use Rattle.gx_base.specs.declared.acts.Step.{Step}
 use Rattle.gx_base.specs.declared.items.Item.{Item}
@@ -25,9 +25,9 @@ whole_commits [] steps counts pushes = []
 whole_commits (c ∷ cs) steps [] pushes = []
 whole_commits (c ∷ cs) steps (n ∷ counts) pushes = whole_commit c (take c.steps steps) (take n pushes) ∷ whole_commits cs (drop c.steps steps) counts (drop n pushes)
 
--- nothing is left over
+-- nothing is wanting, and nothing is left over
 abbrev pub AddUp : List Counted → List Step → List ℕ → List Item → Type 0
 AddUp [] steps [] pushes = (steps ≡ []) × (pushes ≡ [])
 AddUp [] steps (n ∷ counts) pushes = ⊥
 AddUp (c ∷ cs) steps [] pushes = ⊥
-AddUp (c ∷ cs) steps (n ∷ counts) pushes = (length (take c.steps steps) ≡ c.steps) × (length (take n pushes) ≡ n) × AddUp cs (drop c.steps steps) counts (drop n pushes)
+AddUp (c ∷ cs) steps (n ∷ counts) pushes = (c.steps ≤ length steps) × (n ≤ length pushes) × AddUp cs (drop c.steps steps) counts (drop n pushes)

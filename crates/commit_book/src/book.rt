@@ -1,7 +1,8 @@
-ghost use Rattle.std.specs.Prelude.{◌≡◌, [], false, length, ◌∷◌, ◌++◌, IsTrue, ◌↔◌, OnOk, OnErr, IfOk};
+ghost use Rattle.std.specs.Prelude.{◌≡◌, ◌≤◌, [], false, length, ◌∷◌, ◌++◌, IsTrue, ◌↔◌, OnOk, OnErr, IfOk};
 ghost use Rattle.gx_base.specs.Outcomes.{journal};
 ghost use Rattle.gx_base.specs.SerialRuns.{all_counted};
 ghost use Rattle.gx_base.specs.Worklists.{has_item, with_items, without_items};
+ghost use Rattle.commit_book.specs.BookViews.{most_steps};
 ghost use Rattle.commit_book.specs.LawfulBooks.{AreRising, refusal};
 ghost use Rattle.commit_book.specs.StoredBooks.{whole_commit};
 
@@ -28,6 +29,7 @@ pub struct Book {
 }
 
 impl Model for Book {
+    ghost use Rattle.std.specs.Prelude.{[]};
     ghost use Rattle.gx_base.specs.Worklists.{with_items};
     ghost use Rattle.commit_book.specs.BookViews.{BookView, book_code};
     ghost use Rattle.commit_book.specs.LawfulBooks.{IsLawfulBook};
@@ -179,6 +181,7 @@ fn why_not(
     item: Item,
     steps: usize,
 ) -> Option<CommitRefuse>
+    requires kept { length (journal past.now) ≤ most_steps }
     ensures { result ≡ refusal ordered ready.now past.now item steps }
 {
     if !ready.has(item) {
@@ -190,7 +193,7 @@ fn why_not(
     if past.commits().len() == MOST_COMMITS {
         return Some(CommitRefuse::Spent);
     }
-    if past.journal().len() + steps > MOST_STEPS {
+    if steps > MOST_STEPS - past.journal().len() {
         return Some(CommitRefuse::Kept);
     }
     None

@@ -2,7 +2,6 @@ use crate::book::Book;
 use gx_base::Homed;
 
 impl Homed for Book {
-    ghost use Rattle.std.specs.Prelude.{false, absurd_of};
     ghost use Rattle.commit_book.specs.Homes.{room_view, alone};
     ghost use Rattle.commit_book.specs.LawfulBooks.{IsLawfulBook};
 

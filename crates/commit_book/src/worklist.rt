@@ -81,10 +81,8 @@ impl Worklist {
     pub fn least_before(&self, item: Item) -> Option<Item>
         ensures { result ≡ least_before self.now item }
     {
-        match self.items.first() {
-            Some(least) if *least < item => Some(*least),
-            _ => None,
-        }
+        let least = *self.items.first()?;
+        if least < item { Some(least) } else { None }
     }
 
     /// The least item that is held by no iteration.

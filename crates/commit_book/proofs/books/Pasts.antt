@@ -1,0 +1,84 @@
+-- The past of a book as the code keeps it, in four lists.
+use Rattle.std.specs.Prelude.{◌≡◌, ℕ, ◌+◌, ◌≤◌, List, [], ◌∷◌, ◌++◌, length, take, drop, map, sum, refl}
+use Rattle.std.proofs.Common.{sym, ◌∙◌, ap, subst, arith}
+use Rattle.std.proofs.lemmas.List.{append_assoc, append-nil, length-append, length-drop, length-take-le, take_all, drop_all, take-append-drop, take-append-le, drop-append-le}
+use Rattle.gx_base.specs.declared.acts.Commit.{Commit as Counted}
+use Rattle.gx_base.specs.declared.acts.Step.{Step}
+use Rattle.gx_base.specs.declared.items.Item.{Item}
+use Rattle.gx_base.specs.Outcomes.{Commit as WholeCommit, journal}
+use Rattle.gx_base.specs.SerialRuns.{counted, all_counted}
+use Rattle.commit_book.specs.StoredBooks.{whole_commit, whole_commits, AddUp}
+
+-- ---- what the lists tell
+
+counted_whole : (c : Counted) (steps : List Step) (pushes : List Item) → length steps ≡ c.steps → counted (whole_commit c steps pushes) ≡ c
+counted_whole c steps pushes e = λ i. record { worker = c.worker; iter = c.iter; item = c.item; steps = e i }
+
+pub all_counted-whole : (cs : List Counted) (steps : List Step) (counts : List ℕ) (pushes : List Item) → AddUp cs steps counts pushes → all_counted (whole_commits cs steps counts pushes) ≡ cs
+all_counted-whole [] steps [] pushes a = refl
+all_counted-whole [] steps (n ∷ counts) pushes a = refl
+all_counted-whole (c ∷ cs) steps [] pushes a = absurd a
+all_counted-whole (c ∷ cs) steps (n ∷ counts) pushes a =
+    λ i. counted_whole c (take c.steps steps) (take n pushes) (length-take-le c.steps steps a.0) i ∷ all_counted-whole cs (drop c.steps steps) counts (drop n pushes) a.2 i
+
+pub journal-whole : (cs : List Counted) (steps : List Step) (counts : List ℕ) (pushes : List Item) → AddUp cs steps counts pushes → journal (whole_commits cs steps counts pushes) ≡ steps
+journal-whole [] steps [] pushes a = sym a.0
+journal-whole [] steps (n ∷ counts) pushes a = absurd a
+journal-whole (c ∷ cs) steps [] pushes a = absurd a
+journal-whole (c ∷ cs) steps (n ∷ counts) pushes a =
+    ap (λ l. take c.steps steps ++ l) (journal-whole cs (drop c.steps steps) counts (drop n pushes) a.2) ∙ take-append-drop c.steps steps
+
+-- ---- one commit more
+
+all_of : {A : Type 0} (n : ℕ) (xs : List A) → n ≡ length xs → take n xs ≡ xs
+all_of n xs e = take_all n xs (omega arith)
+
+last_whole : (c : Counted) (steps log : List Step) (count : ℕ) (pushes more : List Item) → steps ≡ [] → pushes ≡ [] → c.steps ≡ length log → count ≡ length more
+    → whole_commits (c ∷ []) (steps ++ log) (count ∷ []) (pushes ++ more) ≡ whole_commit c log more ∷ []
+last_whole c steps log count pushes more s p e f =
+    ap (λ l. whole_commits (c ∷ []) (l ++ log) (count ∷ []) (pushes ++ more)) s
+    ∙ ap (λ l. whole_commits (c ∷ []) log (count ∷ []) (l ++ more)) p
+    ∙ (λ i. whole_commit c (all_of c.steps log e i) (all_of count more f i) ∷ [])
+
+pub whole-append : (cs : List Counted) (c : Counted) (steps log : List Step) (counts : List ℕ) (count : ℕ) (pushes more : List Item) → AddUp cs steps counts pushes → c.steps ≡ length log → count ≡ length more
+    → whole_commits (cs ++ c ∷ []) (steps ++ log) (counts ++ count ∷ []) (pushes ++ more) ≡ whole_commits cs steps counts pushes ++ whole_commit c log more ∷ []
+whole-append [] c steps log [] count pushes more a e f = last_whole c steps log count pushes more a.0 a.1 e f
+whole-append [] c steps log (n ∷ counts) count pushes more a e f = absurd a
+whole-append (d ∷ ds) c steps log [] count pushes more a e f = absurd a
+whole-append (d ∷ ds) c steps log (n ∷ counts) count pushes more a e f =
+    (λ i.
+      whole_commit d (take-append-le d.steps steps log a.0 i) (take-append-le n pushes more a.1 i)
+      ∷ whole_commits (ds ++ c ∷ []) (drop-append-le d.steps steps log a.0 i) (counts ++ count ∷ []) (drop-append-le n pushes more a.1 i))
+    ∙ ap (λ l. whole_commit d (take d.steps steps) (take n pushes) ∷ l) (whole-append ds c (drop d.steps steps) log counts count (drop n pushes) more a.2 e f)
+
+longer : {A : Type 0} (n : ℕ) (xs ys : List A) → n ≤ length xs → n ≤ length (xs ++ ys)
+longer n xs ys h = let e = length-append xs ys in omega arith
+
+last_adds_up : (c : Counted) (steps log : List Step) (count : ℕ) (pushes more : List Item) → steps ≡ [] → pushes ≡ [] → c.steps ≡ length log → count ≡ length more → AddUp (c ∷ []) (steps ++ log) (count ∷ []) (pushes ++ more)
+last_adds_up c steps log count pushes more s p e f =
+    let g = length-append steps log in
+    let h = length-append pushes more in
+    let m : length steps ≡ 0 = ap length s in
+    let n : length pushes ≡ 0 = ap length p in
+    (omega arith, omega arith, drop_all c.steps (steps ++ log) (omega arith), drop_all count (pushes ++ more) (omega arith))
+
+pub add_up-append : (cs : List Counted) (c : Counted) (steps log : List Step) (counts : List ℕ) (count : ℕ) (pushes more : List Item) → AddUp cs steps counts pushes → c.steps ≡ length log → count ≡ length more
+    → AddUp (cs ++ c ∷ []) (steps ++ log) (counts ++ count ∷ []) (pushes ++ more)
+add_up-append [] c steps log [] count pushes more a e f = last_adds_up c steps log count pushes more a.0 a.1 e f
+add_up-append [] c steps log (n ∷ counts) count pushes more a e f = absurd a
+add_up-append (d ∷ ds) c steps log [] count pushes more a e f = absurd a
+add_up-append (d ∷ ds) c steps log (n ∷ counts) count pushes more a e f =
+    (longer d.steps steps log a.0, longer n pushes more a.1,
+      subst (λ s. AddUp (ds ++ c ∷ []) s (counts ++ count ∷ []) (drop n (pushes ++ more))) (sym (drop-append-le d.steps steps log a.0))
+      (subst (λ p. AddUp (ds ++ c ∷ []) (drop d.steps steps ++ log) (counts ++ count ∷ []) p) (sym (drop-append-le n pushes more a.1))
+      (add_up-append ds c (drop d.steps steps) log counts count (drop n pushes) more a.2 e f)))
+
+-- ---- their steps
+
+pub steps-sum : (cs : List WholeCommit) → sum (map (λ (c : Counted). c.steps) (all_counted cs)) ≡ length (journal cs)
+steps-sum [] = refl
+steps-sum (c ∷ cs) = ap (λ n. length c.outcome.steps + n) (steps-sum cs) ∙ sym (length-append c.outcome.steps (journal cs))
+
+pub journal-append : (cs : List WholeCommit) (c : WholeCommit) → journal (cs ++ c ∷ []) ≡ journal cs ++ c.outcome.steps
+journal-append [] c = append-nil c.outcome.steps
+journal-append (d ∷ ds) c = ap (λ l. d.outcome.steps ++ l) (journal-append ds c) ∙ sym (append_assoc d.outcome.steps (journal ds) c.outcome.steps)
