@@ -1,7 +1,7 @@
-ghost use Rattle.std.specs.Prelude.{◌≡◌, ◌≤◌, [], false, length, ◌∷◌, ◌++◌, IsTrue, ◌↔◌, OnOk, OnErr, IfOk};
+ghost use Rattle.std.specs.Prelude.{◌≡◌, ◌≤◌, if◌then◌else◌, [], false, length, ◌∷◌, ◌++◌, IsTrue, ◌↔◌, OnOk, OnErr, IfOk};
 ghost use Rattle.gx_base.specs.Outcomes.{journal};
 ghost use Rattle.gx_base.specs.SerialRuns.{all_counted};
-ghost use Rattle.gx_base.specs.Worklists.{has_item, with_items, without_items};
+ghost use Rattle.gx_base.specs.Worklists.{has_item, with_items, without_item, without_items};
 ghost use Rattle.commit_book.specs.BookViews.{most_steps};
 ghost use Rattle.commit_book.specs.LawfulBooks.{AreRising, refusal};
 ghost use Rattle.commit_book.specs.StoredBooks.{whole_commit};
@@ -165,9 +165,7 @@ impl Book {
             self.ready.remove_all(self.added.as_slice());
             return Err(CommitRefuse::NoMemory);
         }
-        if !pushes.contains(&item) {
-            self.ready.remove(item);
-        }
+        leave(&mut self.ready, item, pushes);
         self.holds.end_item(item);
         Ok(number)
     }
@@ -217,4 +215,24 @@ fn take_in(
 {
     ready.insert_noting(pushes, added)?;
     past.append(commit, log, pushes)
+}
+
+// An item that has committed is ready no more, unless its own body has pushed it.
+fn leave(ready: &mut Worklist, item: Item, pushes: &[Item])
+    ensures { ready.new ≡ (if has_item pushes.now item then ready.old else without_item ready.old item) }
+{
+    if !is_among(pushes, item) {
+        ready.remove(item);
+    }
+}
+
+fn is_among(items: &[Item], item: Item) -> bool
+    ensures { result ≡ has_item items.now item }
+{
+    for other in items {
+        if other.cmp(&item).is_eq() {
+            return true;
+        }
+    }
+    false
 }

@@ -1,7 +1,8 @@
 //! Laws of books, over what contracts see of a book alone. A caller of one of these functions, which do nothing, may use
 //! what it ensures.
 
-ghost use Rattle.std.specs.Prelude.{◌≡◌, ℕ, Bool, true, None, List, [], sum, map, length};
+ghost use Rattle.std.specs.Prelude.{◌≡◌, ℕ, Bool, true, None, List, length};
+ghost use Rattle.std.specs.List.{sum_by};
 ghost use Rattle.gx_base.specs.declared.acts.Commit.{Commit};
 ghost use Rattle.gx_base.specs.declared.items.Item.{Item};
 ghost use Rattle.gx_base.specs.Outcomes.{Outcome, Commit as WholeCommit, journal};
@@ -43,5 +44,5 @@ pub fn commits_are_in_turn()
 
 /// The numbers of steps of the commits add up to the length of the journal.
 pub fn steps_add_up()
-    ensures { (commits : List WholeCommit) → sum (map (λ (c : Commit). c.steps) (all_counted commits)) ≡ length (journal commits) }
+    ensures { (commits : List WholeCommit) → sum_by (λ (c : Commit). c.steps) (all_counted commits) ≡ length (journal commits) }
 {}

@@ -82,7 +82,11 @@ impl Worklist {
         ensures { result ≡ least_before self.now item }
     {
         let least = *self.items.first()?;
-        if least < item { Some(least) } else { None }
+        if least.cmp(&item).is_lt() {
+            Some(least)
+        } else {
+            None
+        }
     }
 
     /// The least item that is held by no iteration.

@@ -1,6 +1,6 @@
 -- The holds of a book as std's ordered map keeps them, and what keeps them apart.
 use Rattle.std.specs.Prelude.{◌≡◌, ℕ, Bool, true, false, not, ◌&&◌, ◌||◌, ◌==◌, if◌then◌else◌, Option, Some, None, is_some, List, [], ◌∷◌, refl, ⊤}
-use Rattle.std.proofs.Common.{sym, ◌∙◌, ap, cond}
+use Rattle.std.proofs.Common.{sym, ◌∙◌, ap, subst, cond}
 use Rattle.std.proofs.lemmas.Bool.{eqb-true, eq-eqb}
 use Rattle.std.specs.Cmp.{both_ways}
 use Rattle.std.specs.Ordering.{is_eq, is_lt, match_ordering, ordering_reverse}
@@ -9,13 +9,13 @@ use Rattle.std.specs.declared.cmp.Ordering.TheVariants.{Less, Equal, Greater}
 use Rattle.std.specs.Map.{lookup, remove_entry}
 use Rattle.std.specs.BTreeMap.{insert_entry, is_at}
 use Rattle.gx_base.specs.declared.items.Item.{Item}
-use Rattle.gx_base.specs.Worklists.{item_cmp, same_item, is_before}
+use Rattle.gx_base.specs.Worklists.{item_cmp, same_item, is_before, with_item}
 use Rattle.commit_book.specs.declared.holds.Holder.{Holder}
 use Rattle.commit_book.specs.BookViews.{Hold, is_hold_of, is_held, held_by, with_hold, without_iteration, without_item_held, holds_after, with_name}
-use Rattle.commit_book.specs.LawfulBooks.{AreOthers, AreApart}
+use Rattle.commit_book.specs.LawfulBooks.{AreAfter, AreRising, AreOthers, AreApart}
 use Rattle.commit_book.specs.StoredBooks.{hold_at, holds_of}
 use Rattle.commit_book.proofs.ready.ReadySets.{same_itself}
-use Rattle.commit_book.proofs.ready.RisingItems.{same_is, same_turned, before_then, before_not_same, before_not_after, else_before}
+use Rattle.commit_book.proofs.ready.RisingItems.{same_is, same_turned, before_then, before_not_same, before_not_after, else_before, rising-with}
 
 -- ---- iterations
 
@@ -51,25 +51,56 @@ is_held-lookup (e ∷ es) item =
     found_by (is_at (item_cmp item) e.0) e.1 (lookup (is_at (item_cmp item)) es)
     ∙ (λ i. same_turned item e.0 i || is_held-lookup es item i)
 
+-- ---- the items that are held
+
+abbrev pub items_held : List Hold → List Item
+items_held [] = []
+items_held (h ∷ hs) = h.item ∷ items_held hs
+
+others_after : (h : Hold) (ks : List Hold) → AreOthers h ks → AreAfter h.item (items_held ks)
+others_after h [] a = tt
+others_after h (k ∷ ks) a = (a.0, others_after h ks a.2)
+
+pub apart_rising : (hs : List Hold) → AreApart hs → AreRising (items_held hs)
+apart_rising [] a = tt
+apart_rising (h ∷ hs) a = (others_after h hs a.0, apart_rising hs a.1)
+
+neither : (a b : Bool) → (a || b) ≡ false → (a ≡ false) × (b ≡ false)
+neither true b e = absurd (cc)
+neither false b e = (refl, e)
+
+items_by : (h k : Hold) (ks : List Hold) (before : Bool) → items_held (with_hold ks h) ≡ with_item (items_held ks) h.item
+    → items_held (if before then h ∷ k ∷ ks else k ∷ with_hold ks h) ≡ (if before then h.item ∷ k.item ∷ items_held ks else k.item ∷ with_item (items_held ks) h.item)
+items_by h k ks true rest = refl
+items_by h k ks false rest = ap (λ l. k.item ∷ l) rest
+
+items-with_hold : (hs : List Hold) (h : Hold) → is_held hs h.item ≡ false → items_held (with_hold hs h) ≡ with_item (items_held hs) h.item
+unfolding with_item
+items-with_hold [] h n = refl
+items-with_hold (k ∷ ks) h n =
+    let p = neither (same_item k.item h.item) (is_held ks h.item) n in
+    items_by h k ks (is_before h.item k.item) (items-with_hold ks h p.1)
+    ∙ sym (ap (λ b. if b then k.item ∷ items_held ks else (if is_before h.item k.item then h.item ∷ k.item ∷ items_held ks else k.item ∷ with_item (items_held ks) h.item)) p.0)
+
 -- ---- an item that is held no more
 
-others_not_item : (h : Hold) (ks : List Hold) → AreOthers h ks → without_item_held ks h.item ≡ ks
-others_not_item h [] a = refl
-others_not_item h (k ∷ ks) a =
-    ap (λ b. if b then without_item_held ks h.item else k ∷ without_item_held ks h.item) (before_not_same h.item k.item a.0) ∙ ap (λ l. k ∷ l) (others_not_item h ks a.2)
+others_not_item : (item : Item) (ks : List Hold) → AreAfter item (items_held ks) → without_item_held ks item ≡ ks
+others_not_item item [] a = refl
+others_not_item item (k ∷ ks) a =
+    ap (λ b. if b then without_item_held ks item else k ∷ without_item_held ks item) (before_not_same item k.item a.0) ∙ ap (λ l. k ∷ l) (others_not_item item ks a.1)
 
-removed_by : (e : Item × Holder) (es : List (Item × Holder)) (item : Item) (here : Bool) → is_at (item_cmp item) e.0 ≡ here → AreApart (holds_of (e ∷ es)) → holds_of (remove_entry (is_at (item_cmp item)) es) ≡ without_item_held (holds_of es) item
+removed_by : (e : Item × Holder) (es : List (Item × Holder)) (item : Item) (here : Bool) → is_at (item_cmp item) e.0 ≡ here → AreAfter e.0 (items_held (holds_of es)) → holds_of (remove_entry (is_at (item_cmp item)) es) ≡ without_item_held (holds_of es) item
     → holds_of (cond here es (e ∷ remove_entry (is_at (item_cmp item)) es)) ≡ (if here then without_item_held (holds_of es) item else hold_at e ∷ without_item_held (holds_of es) item)
 removed_by e es item true h a rest =
     let is : e.0 ≡ item = sym (same_is item e.0 h) in
-    sym (others_not_item (hold_at e) (holds_of es) a.0) ∙ ap (without_item_held (holds_of es)) is
+    sym (others_not_item e.0 (holds_of es) a) ∙ ap (without_item_held (holds_of es)) is
 removed_by e es item false h a rest = ap (λ l. hold_at e ∷ l) rest
 
 -- std takes an item out in the same way
-pub held-remove_entry : (es : List (Item × Holder)) (item : Item) → AreApart (holds_of es) → holds_of (remove_entry (is_at (item_cmp item)) es) ≡ without_item_held (holds_of es) item
+pub held-remove_entry : (es : List (Item × Holder)) (item : Item) → AreRising (items_held (holds_of es)) → holds_of (remove_entry (is_at (item_cmp item)) es) ≡ without_item_held (holds_of es) item
 held-remove_entry [] item a = refl
 held-remove_entry (e ∷ es) item a =
-    removed_by e es item (is_at (item_cmp item) e.0) refl a (held-remove_entry es item a.1)
+    removed_by e es item (is_at (item_cmp item) e.0) refl a.0 (held-remove_entry es item a.1)
     ∙ ap (λ b. if b then without_item_held (holds_of es) item else hold_at e ∷ without_item_held (holds_of es) item) (same_turned item e.0)
 
 -- ---- an iteration that holds an item no more
@@ -107,7 +138,7 @@ ended_by : (worker iter : ℕ) (h : Hold) (hs : List Hold) (item : Item) (mine h
     → (if mine then Some h.item else held_by hs worker iter) ≡ Some item → (held_by hs worker iter ≡ Some item → without_iteration hs worker iter ≡ without_item_held hs item)
     → (if mine then without_iteration hs worker iter else h ∷ without_iteration hs worker iter) ≡ (if here then without_item_held hs item else h ∷ without_item_held hs item)
 ended_by worker iter h hs item true true m s a e rest =
-    others_not_of worker iter h hs m a.0 ∙ sym (others_not_item h hs a.0) ∙ ap (without_item_held hs) (same_is h.item item s)
+    others_not_of worker iter h hs m a.0 ∙ sym (others_not_item h.item hs (others_after h hs a.0)) ∙ ap (without_item_held hs) (same_is h.item item s)
 ended_by worker iter h hs item true false m s a e rest =
     absurd (let is : h.item ≡ item = cc in let t : true ≡ false = sym (same_itself item) ∙ ap (λ x. same_item x item) (sym is) ∙ s in cc)
 ended_by worker iter h hs item false true m s a e rest =
@@ -135,10 +166,6 @@ inserted_by : (e : Item × Holder) (es ins : List (Item × Holder)) (item : Item
 inserted_by e es ins item holder Less c n rest = refl
 inserted_by e es ins item holder Equal c n rest = absurd (let t : true ≡ false = ap is_eq (sym c) ∙ same_turned item e.0 ∙ n in cc)
 inserted_by e es ins item holder Greater c n rest = ap (λ l. hold_at e ∷ l) rest
-
-neither : (a b : Bool) → (a || b) ≡ false → (a ≡ false) × (b ≡ false)
-neither true b e = absurd (cc)
-neither false b e = (refl, e)
 
 -- std puts a hold at the same place
 pub with_hold-insert_entry : (es : List (Item × Holder)) (item : Item) (holder : Holder) → is_held (holds_of es) item ≡ false → holds_of (insert_entry item_cmp es item holder) ≡ with_hold (holds_of es) (hold_at (item, holder))
@@ -257,6 +284,33 @@ unheld_still (k ∷ ks) worker iter item e = unheld_by k ks (without_iteration k
 pub apart-given : (hs : List Hold) (h : Hold) → is_held hs h.item ≡ false → AreApart hs → AreApart (with_hold (without_iteration hs h.worker h.iter) h)
 apart-given hs h e a =
     apart-with (without_iteration hs h.worker h.iter) h (unheld_still hs h.worker h.iter h.item e) (none_left hs h.worker h.iter) (apart-without_iteration hs h.worker h.iter a)
+
+-- the same as std's ordered map does it: for an iteration that held nothing
+pub given-first : (es ins : List (Item × Holder)) (hs : List Hold) (item : Item) (holder : Holder) → holds_of es ≡ hs → ins ≡ insert_entry item_cmp es item holder → is_held hs item ≡ false → held_by hs holder.worker holder.iter ≡ None
+    → holds_of ins ≡ with_hold (without_iteration hs holder.worker holder.iter) (hold_at (item, holder))
+given-first es ins hs item holder v e n h =
+    ap holds_of e ∙ with_hold-insert_entry es item holder (ap (λ l. is_held l item) v ∙ n) ∙ ap (λ l. with_hold l (hold_at (item, holder))) v
+    ∙ ap (λ l. with_hold l (hold_at (item, holder))) (sym (none-ended hs holder.worker holder.iter h))
+
+not_same_by : (hs : List Hold) (item held : Item) (same : Bool) → same_item item held ≡ same → is_held hs item ≡ false → is_held hs held ≡ true → same ≡ false
+not_same_by hs item held true e n h = absurd (let t : true ≡ false = sym h ∙ ap (is_held hs) (sym (same_is item held e)) ∙ n in cc)
+not_same_by hs item held false e n h = refl
+
+-- and for one that held an item, which ends after the new hold has begun
+pub given-in_place : (es ins outs : List (Item × Holder)) (hs : List Hold) (item held : Item) (holder : Holder) → holds_of es ≡ hs → ins ≡ insert_entry item_cmp es item holder → outs ≡ remove_entry (is_at (item_cmp held)) ins
+    → AreApart (holds_of es) → is_held hs item ≡ false → held_by hs holder.worker holder.iter ≡ Some held
+    → holds_of outs ≡ with_hold (without_iteration hs holder.worker holder.iter) (hold_at (item, holder))
+given-in_place es ins outs hs item held holder v e f a n h =
+    let unheld : is_held (holds_of es) item ≡ false = ap (λ l. is_held l item) v ∙ n in
+    let begun : holds_of ins ≡ with_hold (holds_of es) (hold_at (item, holder)) = ap holds_of e ∙ with_hold-insert_entry es item holder unheld in
+    let rising : AreRising (items_held (holds_of ins)) =
+        subst AreRising (sym (ap items_held begun ∙ items-with_hold (holds_of es) (hold_at (item, holder)) unheld)) (rising-with (items_held (holds_of es)) item (apart_rising (holds_of es) a)) in
+    let other : same_item item held ≡ false = not_same_by hs item held (same_item item held) refl n (held_by-held hs holder.worker holder.iter held h) in
+    ap holds_of f ∙ held-remove_entry ins held rising
+    ∙ ap (λ l. without_item_held l held) begun
+    ∙ swapped-hold (holds_of es) (hold_at (item, holder)) held a other
+    ∙ ap (λ l. with_hold l (hold_at (item, holder))) (sym (ended-item (holds_of es) holder.worker holder.iter held a (ap (λ l. held_by l holder.worker holder.iter) v ∙ h)))
+    ∙ ap (λ l. with_hold (without_iteration l holder.worker holder.iter) (hold_at (item, holder))) v
 
 -- ---- names
 

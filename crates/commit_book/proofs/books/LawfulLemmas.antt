@@ -21,11 +21,27 @@ use Rattle.commit_book.proofs.ready.RisingItems.{rising-withs, rising-without, r
 pub new_lawful : (ordered : Bool) (ready : List Item) → IsLawfulBook (new_book ordered ready)
 new_lawful ordered ready = record { in_turn = refl; rising = rising-withs ready [] tt; apart = tt; not_more = omega arith; kept = omega arith }
 
+-- the same of parts that are these
+pub new_same : (ordered : Bool) (items first ready : List Item) (holds : List Hold) (commits : List WholeCommit) → first ≡ with_items [] items → ready ≡ with_items [] items → holds ≡ [] → commits ≡ []
+    → record { ordered = ordered; first_ready = first; ready = ready; holds = holds; commits = commits } ≡ new_book ordered items
+new_same ordered items first ready holds commits p q r s = λ i. record { ordered = ordered; first_ready = p i; ready = q i; holds = r i; commits = s i }
+
+pub new_as : (ordered : Bool) (items first ready : List Item) (holds : List Hold) (commits : List WholeCommit) → first ≡ with_items [] items → ready ≡ with_items [] items → holds ≡ [] → commits ≡ []
+    → IsLawfulBook (record { ordered = ordered; first_ready = first; ready = ready; holds = holds; commits = commits })
+new_as ordered items first ready holds commits p q r s = subst IsLawfulBook (sym (new_same ordered items first ready holds commits p q r s)) (new_lawful ordered items)
+
+pub with_none : with_items [] [] ≡ []
+unfolding with_items
+with_none = refl
+
 -- ---- holds
 
 -- with other holds that are apart
 pub other_holds : (b : BookView) (holds : List Hold) → IsLawfulBook b → AreApart holds → IsLawfulBook (record b { holds = holds })
 other_holds b holds l a = record { in_turn = l.in_turn; rising = l.rising; apart = a; not_more = l.not_more; kept = l.kept }
+
+pub with_holds : (b : BookView) (holds now : List Hold) → IsLawfulBook b → now ≡ holds → AreApart holds → IsLawfulBook (record b { holds = now })
+with_holds b holds now l e a = other_holds b now l (subst AreApart (sym e) a)
 
 unheld_by : (holds : List Hold) (x : Item) (xs : List Item) (item : Item) (held : Bool) → is_held holds x ≡ held → (if held then first_free holds xs else Some x) ≡ Some item → (first_free holds xs ≡ Some item → is_held holds item ≡ false) → is_held holds item ≡ false
 unheld_by holds x xs item true h e rest = rest e

@@ -1,5 +1,6 @@
 -- The past of a book as the code keeps it, in four lists.
-use Rattle.std.specs.Prelude.{◌≡◌, ℕ, ◌+◌, ◌≤◌, List, [], ◌∷◌, ◌++◌, length, take, drop, map, sum, refl}
+use Rattle.std.specs.Prelude.{◌≡◌, ℕ, ◌+◌, ◌≤◌, List, [], ◌∷◌, ◌++◌, length, take, drop, refl}
+use Rattle.std.specs.List.{fold, sum_by}
 use Rattle.std.proofs.Common.{sym, ◌∙◌, ap, subst, arith}
 use Rattle.std.proofs.lemmas.List.{append_assoc, append-nil, length-append, length-drop, length-take-le, take_all, drop_all, take-append-drop, take-append-le, drop-append-le}
 use Rattle.gx_base.specs.declared.acts.Commit.{Commit as Counted}
@@ -60,7 +61,7 @@ last_adds_up c steps log count pushes more s p e f =
     let h = length-append pushes more in
     let m : length steps ≡ 0 = ap length s in
     let n : length pushes ≡ 0 = ap length p in
-    (omega arith, omega arith, drop_all c.steps (steps ++ log) (omega arith), drop_all count (pushes ++ more) (omega arith))
+    (omega arith, omega arith, (drop_all c.steps (steps ++ log) (omega arith), drop_all count (pushes ++ more) (omega arith)))
 
 pub add_up-append : (cs : List Counted) (c : Counted) (steps log : List Step) (counts : List ℕ) (count : ℕ) (pushes more : List Item) → AddUp cs steps counts pushes → c.steps ≡ length log → count ≡ length more
     → AddUp (cs ++ c ∷ []) (steps ++ log) (counts ++ count ∷ []) (pushes ++ more)
@@ -73,11 +74,31 @@ add_up-append (d ∷ ds) c steps log (n ∷ counts) count pushes more a e f =
       (subst (λ p. AddUp (ds ++ c ∷ []) (drop d.steps steps ++ log) (counts ++ count ∷ []) p) (sym (drop-append-le n pushes more a.1))
       (add_up-append ds c (drop d.steps steps) log counts count (drop n pushes) more a.2 e f)))
 
+-- the same of lists that are these
+pub appended_adds_up : (cs cs2 : List Counted) (c : Counted) (steps steps2 log : List Step) (counts counts2 : List ℕ) (count : ℕ) (pushes pushes2 more : List Item)
+    → cs2 ≡ cs ++ c ∷ [] → steps2 ≡ steps ++ log → counts2 ≡ counts ++ count ∷ [] → pushes2 ≡ pushes ++ more → AddUp cs steps counts pushes → c.steps ≡ length log → count ≡ length more → AddUp cs2 steps2 counts2 pushes2
+appended_adds_up cs cs2 c steps steps2 log counts counts2 count pushes pushes2 more p q r s a e f =
+    subst (λ x. AddUp x steps2 counts2 pushes2) (sym p)
+    (subst (λ x. AddUp (cs ++ c ∷ []) x counts2 pushes2) (sym q)
+    (subst (λ x. AddUp (cs ++ c ∷ []) (steps ++ log) x pushes2) (sym r)
+    (subst (λ x. AddUp (cs ++ c ∷ []) (steps ++ log) (counts ++ count ∷ []) x) (sym s) (add_up-append cs c steps log counts count pushes more a e f))))
+
+pub appended_whole : (cs cs2 : List Counted) (c : Counted) (steps steps2 log : List Step) (counts counts2 : List ℕ) (count : ℕ) (pushes pushes2 more : List Item)
+    → cs2 ≡ cs ++ c ∷ [] → steps2 ≡ steps ++ log → counts2 ≡ counts ++ count ∷ [] → pushes2 ≡ pushes ++ more → AddUp cs steps counts pushes → c.steps ≡ length log → count ≡ length more
+    → whole_commits cs2 steps2 counts2 pushes2 ≡ whole_commits cs steps counts pushes ++ whole_commit c log more ∷ []
+appended_whole cs cs2 c steps steps2 log counts counts2 count pushes pushes2 more p q r s a e f =
+    (λ i. whole_commits (p i) (q i) (r i) (s i)) ∙ whole-append cs c steps log counts count pushes more a e f
+
 -- ---- their steps
 
-pub steps-sum : (cs : List WholeCommit) → sum (map (λ (c : Counted). c.steps) (all_counted cs)) ≡ length (journal cs)
-steps-sum [] = refl
-steps-sum (c ∷ cs) = ap (λ n. length c.outcome.steps + n) (steps-sum cs) ∙ sym (length-append c.outcome.steps (journal cs))
+sum_from : (cs : List WholeCommit) (n : ℕ) → fold (λ (a : ℕ) (c : Counted). a + c.steps) n (all_counted cs) ≡ n + length (journal cs)
+sum_from [] n = omega arith
+sum_from (c ∷ cs) n =
+    let e = length-append c.outcome.steps (journal cs) in
+    sum_from cs (n + length c.outcome.steps) ∙ (omega arith)
+
+pub steps-sum : (cs : List WholeCommit) → sum_by (λ (c : Counted). c.steps) (all_counted cs) ≡ length (journal cs)
+steps-sum cs = sum_from cs 0 ∙ (omega arith)
 
 pub journal-append : (cs : List WholeCommit) (c : WholeCommit) → journal (cs ++ c ∷ []) ≡ journal cs ++ c.outcome.steps
 journal-append [] c = append-nil c.outcome.steps

@@ -1,6 +1,6 @@
 -- Sets of items, as lists by rising item: what is in one after items enter and leave, and that two with the same items are
 -- the same.
-use Rattle.std.specs.Prelude.{◌≡◌, Bool, true, false, not, ◌&&◌, ◌||◌, if◌then◌else◌, Option, Some, None, List, [], ◌∷◌, ◌++◌, refl, ⊤}
+use Rattle.std.specs.Prelude.{◌≡◌, Bool, true, false, not, ◌&&◌, ◌||◌, if◌then◌else◌, Option, Some, None, List, [], ◌∷◌, ◌++◌, slice_get, refl, ⊤}
 use Rattle.std.proofs.Common.{sym, ◌∙◌, ap, subst}
 use Rattle.std.specs.Ordering.{is_eq, is_lt, ordering_reverse}
 use Rattle.std.specs.declared.cmp.Ordering.{Ordering}
@@ -278,6 +278,10 @@ noted_only before now added x n h = record {
   others = λ z. ap (λ b. not b && has_item now z) (has-append added (x ∷ []) z) ∙ kept_by before now x z (same_item x z) (has_item added z) refl h (n.others z);
 }
 
+-- the same of lists that are these
+pub noted_as : (before now now2 added added2 : List Item) → now2 ≡ now → added2 ≡ added → IsNoted before now added → IsNoted before now2 added2
+noted_as before now now2 added added2 p q n = subst (λ x. IsNoted before x added2) (sym p) (subst (λ x. IsNoted before now x) (sym q) n)
+
 -- the set without the items that were added is as it was
 pub taken_back : (before now added : List Item) → AreRising before → IsNoted before now added → without_items now added ≡ before
 taken_back before now added r n =
@@ -325,3 +329,7 @@ none_before [] item r n = refl
 none_before (x ∷ xs) item r n =
     let f : is_before x item ≡ false = none_by x item (is_before x item) refl n in
     ap (λ b. not b && is_least xs item) f ∙ least_above x item xs f r.0
+
+pub least_before-first : (ready : List Item) (x item : Item) → slice_get ready 0 ≡ Some x → least_before ready item ≡ (if is_before x item then Some x else None)
+least_before-first [] x item e = absurd (cc)
+least_before-first (y ∷ ys) x item e = let is : y ≡ x = cc in ap (λ z. if is_before z item then Some z else None) is
