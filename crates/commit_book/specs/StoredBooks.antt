@@ -1,5 +1,5 @@
 -- How a book's holds and its past are kept, as contracts see them.
-use Rattle.std.specs.Prelude.{◌≡◌, ℕ, ◌+◌, false, List, [], ◌∷◌, length, take, drop, ◌≤◌}
+use Rattle.std.specs.Prelude.{◌≡◌, ℕ, false, List, [], ◌∷◌, length, take, drop, ◌≤◌}
 use Rattle.gx_base.specs.declared.acts.Commit.{Commit as Counted}
 use Rattle.gx_base.specs.declared.acts.Step.{Step}
 use Rattle.gx_base.specs.declared.items.Item.{Item}

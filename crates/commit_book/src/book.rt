@@ -153,15 +153,14 @@ impl Book {
             item,
             steps: log.len() as u64,
         };
-        let taken = take_in(
+        if let Err(NoMemory) = take_in(
             &mut self.ready,
             &mut self.added,
             &mut self.past,
             commit,
             log,
             pushes,
-        );
-        if taken.is_err() {
+        ) {
             self.ready.remove_all(self.added.as_slice());
             return Err(CommitRefuse::NoMemory);
         }

@@ -1,9 +1,9 @@
 -- The holds of a book as std's ordered map keeps them, and what keeps them apart.
-use Rattle.std.specs.Prelude.{◌≡◌, ℕ, Bool, true, false, not, ◌&&◌, ◌||◌, ◌==◌, if◌then◌else◌, Option, Some, None, is_some, List, [], ◌∷◌, refl, ⊤}
+use Rattle.std.specs.Prelude.{◌≡◌, ℕ, Bool, true, false, ◌&&◌, ◌||◌, ◌==◌, if◌then◌else◌, Option, Some, None, is_some, List, [], ◌∷◌, refl, ⊤}
 use Rattle.std.proofs.Common.{sym, ◌∙◌, ap, subst, cond}
 use Rattle.std.proofs.lemmas.Bool.{eqb-true, eq-eqb}
 use Rattle.std.specs.Cmp.{both_ways}
-use Rattle.std.specs.Ordering.{is_eq, is_lt, match_ordering, ordering_reverse}
+use Rattle.std.specs.Ordering.{is_eq, is_lt, match_ordering}
 use Rattle.std.specs.declared.cmp.Ordering.{Ordering}
 use Rattle.std.specs.declared.cmp.Ordering.TheVariants.{Less, Equal, Greater}
 use Rattle.std.specs.Map.{lookup, remove_entry}
@@ -11,11 +11,11 @@ use Rattle.std.specs.BTreeMap.{insert_entry, is_at}
 use Rattle.gx_base.specs.declared.items.Item.{Item}
 use Rattle.gx_base.specs.Worklists.{item_cmp, same_item, is_before, with_item}
 use Rattle.commit_book.specs.declared.holds.Holder.{Holder}
-use Rattle.commit_book.specs.BookViews.{Hold, is_hold_of, is_held, held_by, with_hold, without_iteration, without_item_held, holds_after, with_name}
+use Rattle.commit_book.specs.BookViews.{Hold, is_hold_of, is_held, held_by, with_hold, without_iteration, without_item_held, with_name}
 use Rattle.commit_book.specs.LawfulBooks.{AreAfter, AreRising, AreOthers, AreApart}
 use Rattle.commit_book.specs.StoredBooks.{hold_at, holds_of}
 use Rattle.commit_book.proofs.ready.ReadySets.{same_itself}
-use Rattle.commit_book.proofs.ready.RisingItems.{same_is, same_turned, before_then, before_not_same, before_not_after, else_before, rising-with}
+use Rattle.commit_book.proofs.ready.RisingItems.{same_is, same_turned, before_then, before_not_same, else_before, rising-with}
 
 -- ---- iterations
 
@@ -304,7 +304,7 @@ given-in_place es ins outs hs item held holder v e f a n h =
     let unheld : is_held (holds_of es) item ≡ false = ap (λ l. is_held l item) v ∙ n in
     let begun : holds_of ins ≡ with_hold (holds_of es) (hold_at (item, holder)) = ap holds_of e ∙ with_hold-insert_entry es item holder unheld in
     let rising : AreRising (items_held (holds_of ins)) =
-        subst AreRising (sym (ap items_held begun ∙ items-with_hold (holds_of es) (hold_at (item, holder)) unheld)) (rising-with (items_held (holds_of es)) item (apart_rising (holds_of es) a)) in
+    subst AreRising (sym (ap items_held begun ∙ items-with_hold (holds_of es) (hold_at (item, holder)) unheld)) (rising-with (items_held (holds_of es)) item (apart_rising (holds_of es) a)) in
     let other : same_item item held ≡ false = not_same_by hs item held (same_item item held) refl n (held_by-held hs holder.worker holder.iter held h) in
     ap holds_of f ∙ held-remove_entry ins held rising
     ∙ ap (λ l. without_item_held l held) begun

@@ -1,20 +1,22 @@
 -- Why each call of a book keeps it lawful.
-use Rattle.std.specs.Prelude.{◌≡◌, ℕ, ◌+◌, ◌≤◌, Bool, true, false, not, ◌&&◌, ◌||◌, ◌==◌, nat_lt, if◌then◌else◌, Option, Some, None, List, [], ◌∷◌, ◌++◌, length, refl}
+use Rattle.std.specs.Prelude.{◌≡◌, ℕ, ◌+◌, Bool, true, false, not, ◌&&◌, ◌==◌, nat_lt, if◌then◌else◌, Option, Some, None, List, [], ◌∷◌, ◌++◌, length, refl}
 use Rattle.std.proofs.Common.{sym, ◌∙◌, ap, subst, arith}
 use Rattle.std.proofs.lemmas.Bool.{eqb-false, ltb-false}
 use Rattle.std.proofs.lemmas.List.{length-append}
+use Rattle.gx_base.specs.declared.acts.Step.{Step}
 use Rattle.gx_base.specs.declared.items.Item.{Item}
 use Rattle.gx_base.specs.Outcomes.{Outcome, Commit as WholeCommit, journal}
 use Rattle.gx_base.specs.SerialIterations.{may_commit, ready_after}
 use Rattle.gx_base.specs.SerialRuns.{AreInTurn}
-use Rattle.gx_base.specs.Worklists.{has_item, is_least, with_items, without_item, without_items}
+use Rattle.gx_base.specs.Worklists.{has_item, is_least, with_items, without_item}
 use Rattle.commit_book.specs.declared.refusals.CommitRefuse.{CommitRefuse}
-use Rattle.commit_book.specs.declared.refusals.CommitRefuse.TheVariants.{NotReady, NotLeast, Spent, Kept}
-use Rattle.commit_book.specs.BookViews.{Hold, BookView, is_held, with_hold, without_iteration, first_free, new_book, is_free, give, give_found, next_free, hold, put_back, name_off, commit, most_commits, most_steps}
+use Rattle.commit_book.specs.declared.refusals.CommitRefuse.TheVariants.{NotReady, Spent, Kept}
+use Rattle.commit_book.specs.BookViews.{Hold, BookView, is_held, without_item_held, first_free, new_book, give, give_found, next_free, hold, put_back, name_off, commit, most_commits, most_steps}
 use Rattle.commit_book.specs.LawfulBooks.{AreRising, AreApart, IsLawfulBook, least_before, not_least, or_else, only_if, refusal}
 use Rattle.commit_book.proofs.books.HoldLists.{apart-without_item, apart-without_iteration, apart-given, apart-with_name}
 use Rattle.commit_book.proofs.books.Pasts.{journal-append}
-use Rattle.commit_book.proofs.ready.RisingItems.{rising-withs, rising-without, rising-withouts, none_before}
+use Rattle.commit_book.proofs.ready.ReadySets.{ready_after-pushes}
+use Rattle.commit_book.proofs.ready.RisingItems.{rising-withs, rising-without, rising-withouts, none_before, left_and_pushed, left_after}
 
 -- ---- a new book
 
@@ -145,3 +147,27 @@ commit_lawful b worker iter item o l e =
       not_more = grind arith;
       kept = omega arith;
     }
+
+-- ---- a commit as the code makes it: first the pushes enter, then the item leaves, unless it is one of them
+
+left_by : (ready : List Item) (item : Item) (pushes : List Item) (pushed : Bool) → has_item pushes item ≡ pushed → AreRising ready
+    → (if pushed then with_items ready pushes else without_item (with_items ready pushes) item) ≡ with_items (without_item ready item) pushes
+left_by ready item pushes true h r = left_and_pushed pushes ready item r h
+left_by ready item pushes false h r = left_after pushes ready item r h
+
+pub committed : (b : BookView) (worker iter : ℕ) (item : Item) (log : List Step) (pushes entered ready : List Item) (holds : List Hold) (commits : List WholeCommit) → AreRising b.ready
+    → entered ≡ with_items b.ready pushes → ready ≡ (if has_item pushes item then entered else without_item entered item) → holds ≡ without_item_held b.holds item
+    → commits ≡ b.commits ++ record { worker = worker; iter = iter; item = item; outcome = record { steps = log; pushes = pushes; withdrawn = [] } } ∷ []
+    → record b { ready = ready; holds = holds; commits = commits } ≡ commit b worker iter item (record { steps = log; pushes = pushes; withdrawn = [] })
+committed b worker iter item log pushes entered ready holds commits r e l h c =
+    let is : ready ≡ ready_after b.ready item (record { steps = log; pushes = pushes; withdrawn = [] }) =
+    l ∙ ap (λ x. if has_item pushes item then x else without_item x item) e ∙ left_by b.ready item pushes (has_item pushes item) refl r ∙ sym (ready_after-pushes b.ready item log pushes) in
+    λ i. record { ordered = b.ordered; first_ready = b.first_ready; ready = is i; holds = h i; commits = c i }
+
+pub committed_lawful : (b : BookView) (worker iter : ℕ) (item : Item) (log : List Step) (pushes entered ready : List Item) (holds : List Hold) (commits : List WholeCommit) → IsLawfulBook b → refusal b.ordered b.ready b.commits item (length log) ≡ None
+    → entered ≡ with_items b.ready pushes → ready ≡ (if has_item pushes item then entered else without_item entered item) → holds ≡ without_item_held b.holds item
+    → commits ≡ b.commits ++ record { worker = worker; iter = iter; item = item; outcome = record { steps = log; pushes = pushes; withdrawn = [] } } ∷ []
+    → IsLawfulBook (record b { ready = ready; holds = holds; commits = commits })
+committed_lawful b worker iter item log pushes entered ready holds commits lawful n e l h c =
+    subst IsLawfulBook (sym (committed b worker iter item log pushes entered ready holds commits lawful.rising e l h c))
+    (commit_lawful b worker iter item (record { steps = log; pushes = pushes; withdrawn = [] }) lawful n)

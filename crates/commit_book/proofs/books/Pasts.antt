@@ -2,7 +2,7 @@
 use Rattle.std.specs.Prelude.{◌≡◌, ℕ, ◌+◌, ◌≤◌, List, [], ◌∷◌, ◌++◌, length, take, drop, refl}
 use Rattle.std.specs.List.{fold, sum_by}
 use Rattle.std.proofs.Common.{sym, ◌∙◌, ap, subst, arith}
-use Rattle.std.proofs.lemmas.List.{append_assoc, append-nil, length-append, length-drop, length-take-le, take_all, drop_all, take-append-drop, take-append-le, drop-append-le}
+use Rattle.std.proofs.lemmas.List.{append_assoc, append-nil, length-append, length-take-le, take_all, drop_all, take-append-drop, take-append-le, drop-append-le}
 use Rattle.gx_base.specs.declared.acts.Commit.{Commit as Counted}
 use Rattle.gx_base.specs.declared.acts.Step.{Step}
 use Rattle.gx_base.specs.declared.items.Item.{Item}
@@ -48,8 +48,8 @@ whole-append [] c steps log (n ∷ counts) count pushes more a e f = absurd a
 whole-append (d ∷ ds) c steps log [] count pushes more a e f = absurd a
 whole-append (d ∷ ds) c steps log (n ∷ counts) count pushes more a e f =
     (λ i.
-      whole_commit d (take-append-le d.steps steps log a.0 i) (take-append-le n pushes more a.1 i)
-      ∷ whole_commits (ds ++ c ∷ []) (drop-append-le d.steps steps log a.0 i) (counts ++ count ∷ []) (drop-append-le n pushes more a.1 i))
+    whole_commit d (take-append-le d.steps steps log a.0 i) (take-append-le n pushes more a.1 i)
+    ∷ whole_commits (ds ++ c ∷ []) (drop-append-le d.steps steps log a.0 i) (counts ++ count ∷ []) (drop-append-le n pushes more a.1 i))
     ∙ ap (λ l. whole_commit d (take d.steps steps) (take n pushes) ∷ l) (whole-append ds c (drop d.steps steps) log counts count (drop n pushes) more a.2 e f)
 
 longer : {A : Type 0} (n : ℕ) (xs ys : List A) → n ≤ length xs → n ≤ length (xs ++ ys)
@@ -68,11 +68,13 @@ pub add_up-append : (cs : List Counted) (c : Counted) (steps log : List Step) (c
 add_up-append [] c steps log [] count pushes more a e f = last_adds_up c steps log count pushes more a.0 a.1 e f
 add_up-append [] c steps log (n ∷ counts) count pushes more a e f = absurd a
 add_up-append (d ∷ ds) c steps log [] count pushes more a e f = absurd a
-add_up-append (d ∷ ds) c steps log (n ∷ counts) count pushes more a e f =
-    (longer d.steps steps log a.0, longer n pushes more a.1,
-      subst (λ s. AddUp (ds ++ c ∷ []) s (counts ++ count ∷ []) (drop n (pushes ++ more))) (sym (drop-append-le d.steps steps log a.0))
+add_up-append (d ∷ ds) c steps log (n ∷ counts) count pushes more a e f = (
+  longer d.steps steps log a.0,
+  longer n pushes more a.1,
+  subst (λ s. AddUp (ds ++ c ∷ []) s (counts ++ count ∷ []) (drop n (pushes ++ more))) (sym (drop-append-le d.steps steps log a.0))
       (subst (λ p. AddUp (ds ++ c ∷ []) (drop d.steps steps ++ log) (counts ++ count ∷ []) p) (sym (drop-append-le n pushes more a.1))
-      (add_up-append ds c (drop d.steps steps) log counts count (drop n pushes) more a.2 e f)))
+      (add_up-append ds c (drop d.steps steps) log counts count (drop n pushes) more a.2 e f)),
+)
 
 -- the same of lists that are these
 pub appended_adds_up : (cs cs2 : List Counted) (c : Counted) (steps steps2 log : List Step) (counts counts2 : List ℕ) (count : ℕ) (pushes pushes2 more : List Item)

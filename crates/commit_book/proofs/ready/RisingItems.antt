@@ -1,6 +1,7 @@
 -- Sets of items, as lists by rising item: what is in one after items enter and leave, and that two with the same items are
 -- the same.
-use Rattle.std.specs.Prelude.{◌≡◌, Bool, true, false, not, ◌&&◌, ◌||◌, if◌then◌else◌, Option, Some, None, List, [], ◌∷◌, ◌++◌, slice_get, refl, ⊤}
+use Rattle.std.specs.Prelude.{◌≡◌, Bool, true, false, not, ◌&&◌, ◌||◌, if◌then◌else◌, Some, None, List, [], ◌∷◌, ◌++◌, slice_get, slice_index_or, ℕ, ◌+◌, ◌<◌, ◌≤◌, length, drop, refl}
+use Rattle.std.proofs.lemmas.List.{drop_more, drop_all}
 use Rattle.std.proofs.Common.{sym, ◌∙◌, ap, subst}
 use Rattle.std.specs.Ordering.{is_eq, is_lt, ordering_reverse}
 use Rattle.std.specs.declared.cmp.Ordering.{Ordering}
@@ -8,7 +9,7 @@ use Rattle.std.specs.declared.cmp.Ordering.TheVariants.{Less, Equal, Greater}
 use Rattle.gx_base.specs.declared.items.Item.{Item}
 use Rattle.gx_base.specs.Worklists.{item_cmp, same_item, is_before, has_item, is_least, with_item, with_items, without_item, without_items}
 use Rattle.commit_book.specs.LawfulBooks.{AreAfter, AreRising, least_before}
-use Rattle.commit_book.proofs.ready.ReadySets.{item_cmp_total, item_equal, is_equal, same_itself, before_itself}
+use Rattle.commit_book.proofs.ready.ReadySets.{item_cmp_total, item_equal, is_equal, same_itself}
 
 -- ---- the order of two items
 
@@ -333,3 +334,25 @@ none_before (x ∷ xs) item r n =
 pub least_before-first : (ready : List Item) (x item : Item) → slice_get ready 0 ≡ Some x → least_before ready item ≡ (if is_before x item then Some x else None)
 least_before-first [] x item e = absurd (cc)
 least_before-first (y ∷ ys) x item e = let is : y ≡ x = cc in ap (λ z. if is_before z item then Some z else None) is
+
+-- ---- a walk over items
+
+among_here : (x y : Item) (ys : List Item) → same_item y x ≡ true → has_item (y ∷ ys) x ≡ true
+unfolding has_item
+among_here x y ys e = ap (λ b. b || has_item ys x) e
+
+among_later : (x y : Item) (ys : List Item) → same_item y x ≡ false → has_item (y ∷ ys) x ≡ has_item ys x
+unfolding has_item
+among_later x y ys e = ap (λ b. b || has_item ys x) e
+
+-- the item that the walk has come to is this one
+pub among_at : (items : List Item) (item : Item) (i : ℕ) (d : Item) → i < length items → has_item (drop i items) item ≡ has_item items item → same_item (slice_index_or items i d) item ≡ true → true ≡ has_item items item
+among_at items item i d l so e = sym (ap (λ ys. has_item ys item) (drop_more items i d l) ∙ among_here item (slice_index_or items i d) (drop (i + 1) items) e) ∙ so
+
+-- it is another one
+pub among_after : (items : List Item) (item : Item) (i : ℕ) (d : Item) → i < length items → has_item (drop i items) item ≡ has_item items item → same_item (slice_index_or items i d) item ≡ false → has_item (drop (i + 1) items) item ≡ has_item items item
+among_after items item i d l so e = sym (ap (λ ys. has_item ys item) (drop_more items i d l) ∙ among_later item (slice_index_or items i d) (drop (i + 1) items) e) ∙ so
+
+-- none is left
+pub among_none : (items : List Item) (item : Item) (i : ℕ) → length items ≤ i → has_item (drop i items) item ≡ has_item items item → false ≡ has_item items item
+among_none items item i l so = sym (ap (λ ys. has_item ys item) (drop_all i items l) ∙ has_none item) ∙ so

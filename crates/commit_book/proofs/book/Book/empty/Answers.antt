@@ -1,4 +1,4 @@
-use Rattle.std.proofs.Common.{[], ◌∙◌, sym, ap, subst, false}
+use Rattle.std.proofs.Common.{[], ◌∙◌, sym, ap, false}
 use Rattle.gx_base.specs.Worklists.{with_items}
 use Rattle.commit_book.proofs.books.LawfulLemmas.{new_as, new_same, with_none}
 use Rattle.commit_book.proofs.book.Book.empty.Goals as goal

@@ -1,4 +1,4 @@
-use Rattle.std.proofs.Common.{◌∙◌, sym, ap, subst, false}
+use Rattle.std.proofs.Common.{◌∙◌, sym, false}
 use Rattle.commit_book.proofs.books.HoldLists.{apart-given}
 use Rattle.commit_book.proofs.books.LawfulLemmas.{with_holds, first_free-unheld}
 use Rattle.commit_book.proofs.book.Book.next_free.Goals as goal

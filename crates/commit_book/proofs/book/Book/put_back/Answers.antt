@@ -1,5 +1,3 @@
-use Rattle.std.proofs.Common.{sym, ap, subst}
-use Rattle.commit_book.specs.LawfulBooks.{AreApart}
 use Rattle.commit_book.proofs.books.HoldLists.{apart-without_iteration}
 use Rattle.commit_book.proofs.books.LawfulLemmas.{with_holds}
 use Rattle.commit_book.proofs.book.Book.put_back.Goals as goal

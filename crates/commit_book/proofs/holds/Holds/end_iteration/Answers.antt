@@ -1,6 +1,6 @@
 use Rattle.std.proofs.Common.{◌≡◌, ◌∙◌, sym, ap, subst, Some}
 use Rattle.gx_base.specs.Worklists.{item_cmp}
-use Rattle.commit_book.specs.BookViews.{held_by, without_item_held, without_iteration}
+use Rattle.commit_book.specs.BookViews.{held_by, without_iteration}
 use Rattle.commit_book.specs.LawfulBooks.{AreApart}
 use Rattle.commit_book.specs.StoredBooks.{holds_of}
 use Rattle.commit_book.proofs.books.HoldLists.{held-remove_entry, apart_rising, apart-without_item, ended-item, none-ended}
@@ -16,7 +16,7 @@ pub returns-in-Some : goal.returns-in-Some
 unfolding item_cmp
 returns-in-Some c =
     let held : held_by (holds_of c.self.inside.holders.entries) c.args.worker c.args.iter ≡ Some c.in-Some.item =
-        ap (λ holds. held_by holds c.args.worker c.args.iter) c.self.view_is ∙ sym c.held_by.ensures ∙ c.in-Some.is in
+    ap (λ holds. held_by holds c.args.worker c.args.iter) c.self.view_is ∙ sym c.held_by.ensures ∙ c.in-Some.is in
     ap holds_of c.remove.ensures.entries ∙ held-remove_entry c.self.inside.holders.entries c.in-Some.item (apart_rising _ c.self.invariant)
     ∙ sym (ended-item (holds_of c.self.inside.holders.entries) c.args.worker c.args.iter c.in-Some.item c.self.invariant held)
     ∙ ap (λ holds. without_iteration holds c.args.worker c.args.iter) c.self.view_is

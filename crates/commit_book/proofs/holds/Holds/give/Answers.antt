@@ -1,8 +1,6 @@
-use Rattle.std.proofs.Common.{◌≡◌, ◌∙◌, sym, ap, subst, Some, None, false}
+use Rattle.std.proofs.Common.{◌∙◌, sym, subst, false}
 use Rattle.gx_base.specs.Worklists.{item_cmp}
-use Rattle.commit_book.specs.BookViews.{held_by, is_held, with_hold, without_iteration}
 use Rattle.commit_book.specs.LawfulBooks.{AreApart}
-use Rattle.commit_book.specs.StoredBooks.{holds_of}
 use Rattle.commit_book.proofs.books.HoldLists.{apart-given, given-in_place, given-first}
 use Rattle.commit_book.proofs.holds.Holds.give.Goals as goal
 

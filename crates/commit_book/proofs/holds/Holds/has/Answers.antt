@@ -1,4 +1,4 @@
-use Rattle.std.proofs.Common.{◌∙◌, sym, ap}
+use Rattle.std.proofs.Common.{◌∙◌, ap}
 use Rattle.gx_base.specs.Worklists.{item_cmp}
 use Rattle.commit_book.specs.BookViews.{is_held}
 use Rattle.commit_book.proofs.books.HoldLists.{is_held-lookup}

@@ -20,7 +20,7 @@ returns-in_err-insert-clause-back c =
 pub loop-item-preserved : goal.loop-item-preserved
 loop-item-preserved c =
     elim c.if-not-has.branch [
-      then-not-has+in_ok-push+in_ok-insert w ↦
+      | then-not-has+in_ok-push+in_ok-insert w ↦
           record {
             so_far =
                 one_more_ready c.args.items.now c.args.self.now c.loop-item.self c.if-not-has.self c.loop-item.item-index _ c.loop-item-test.true c.loop-item.invariant.so_far (w.self-is ∙ w.in_ok-insert.ensures.ok);
@@ -29,7 +29,7 @@ loop-item-preserved c =
                 (let e : c.if-not-has.added.items ≡ w.push.new.self.items = cc in e ∙ w.in_ok-push.ensures.items)
                 (noted_more c.args.self.now c.loop-item.self c.loop-item.added.items _ c.loop-item.invariant.noted (sym c.has.ensures ∙ w.if-not-has.true));
           }
-    | else-not-has w ↦
+      | else-not-has w ↦
           record {
             so_far =
                 one_more_ready c.args.items.now c.args.self.now c.loop-item.self c.if-not-has.self c.loop-item.item-index _ c.loop-item-test.true c.loop-item.invariant.so_far
