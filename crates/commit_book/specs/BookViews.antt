@@ -2,7 +2,7 @@
 use Rattle.std.specs.Prelude.{ℕ, ◌+◌, Bool, true, false, not, ◌&&◌, ◌||◌, ◌==◌, nat_lt, if◌then◌else◌, Option, Some, None, List, [], ◌∷◌, ◌++◌, length, refl}
 use Rattle.std.specs.Coded.{Coded, code_by, coded×, coded_ℕ, coded_bool, coded_list}
 use Rattle.gx_base.specs.declared.items.Item.{Item}
-use Rattle.gx_base.specs.Outcomes.{Outcome, Commit as WholeCommit, journal, item_code, commit_code}
+use Rattle.gx_base.specs.Outcomes.{Outcome, WholeCommit, journal, item_code, whole_commit_code}
 use Rattle.gx_base.specs.SerialIterations.{may_commit, ready_after}
 use Rattle.gx_base.specs.Worklists.{same_item, is_before, has_item, with_items}
 
@@ -161,7 +161,7 @@ hold_code =
 abbrev pub book_code : Coded BookView
 book_code =
     code_by (Bool × (List Item × (List Item × (List Hold × List WholeCommit))))
-    (coded× coded_bool (coded× (coded_list item_code) (coded× (coded_list item_code) (coded× (coded_list hold_code) (coded_list commit_code)))))
+    (coded× coded_bool (coded× (coded_list item_code) (coded× (coded_list item_code) (coded× (coded_list hold_code) (coded_list whole_commit_code)))))
     (λ b. (b.ordered, (b.first_ready, (b.ready, (b.holds, b.commits)))))
     (λ p. record { ordered = p.0; first_ready = p.1.0; ready = p.1.1.0; holds = p.1.1.1.0; commits = p.1.1.1.1 })
     (λ _. refl)

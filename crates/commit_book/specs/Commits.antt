@@ -3,10 +3,10 @@ use Rattle.std.specs.Prelude.{List, [], map}
 use Rattle.gx_base.specs.declared.acts.Commit.{Commit}
 use Rattle.gx_base.specs.declared.items.Item.{Item}
 use Rattle.gx_base.specs.Outcomes.{Outcome}
-use Rattle.commit_book.specs.declared.outcome.Outcome.{Outcome as Kept}
+use Rattle.commit_book.specs.declared.body_log.BodyLog.{BodyLog}
 
 -- no body withdraws an item
-abbrev pub outcome_of : Kept → Outcome
+abbrev pub outcome_of : BodyLog → Outcome
 outcome_of kept = record { steps = kept.steps.items; pushes = kept.pushes.items; withdrawn = [] }
 
 -- the items of commits, in their order

@@ -1,7 +1,7 @@
 -- When a book is lawful, and when it refuses a commit.
 use Rattle.std.specs.Prelude.{◌≡◌, ◌≤◌, ℕ, ◌+◌, Bool, true, false, not, ◌==◌, nat_lt, if◌then◌else◌, Option, Some, None, List, [], ◌∷◌, length, Result, Err, OnErr, ⊤}
 use Rattle.gx_base.specs.declared.items.Item.{Item}
-use Rattle.gx_base.specs.Outcomes.{Commit as WholeCommit, journal}
+use Rattle.gx_base.specs.Outcomes.{WholeCommit, journal}
 use Rattle.gx_base.specs.SerialRuns.{AreInTurn}
 use Rattle.gx_base.specs.Worklists.{is_before, has_item}
 use Rattle.commit_book.specs.declared.refusals.CommitRefuse.{CommitRefuse}

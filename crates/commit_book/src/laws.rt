@@ -5,7 +5,7 @@ ghost use Rattle.std.specs.Prelude.{◌≡◌, ℕ, Bool, true, None, List, leng
 ghost use Rattle.std.specs.List.{sum_by};
 ghost use Rattle.gx_base.specs.declared.acts.Commit.{Commit};
 ghost use Rattle.gx_base.specs.declared.items.Item.{Item};
-ghost use Rattle.gx_base.specs.Outcomes.{Outcome, Commit as WholeCommit, journal};
+ghost use Rattle.gx_base.specs.Outcomes.{Outcome, WholeCommit, journal};
 ghost use Rattle.gx_base.specs.SerialRuns.{all_counted};
 ghost use Rattle.commit_book.specs.BookViews.{BookView, new_book, next_free, hold, put_back, name_off, commit, is_in_turn};
 ghost use Rattle.commit_book.specs.LawfulBooks.{IsLawfulBook, refusal};

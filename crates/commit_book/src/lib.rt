@@ -6,23 +6,23 @@
 //! holds of it between any two calls, and `laws` what follows.
 #![tactic(auto)]
 
+mod body_log;
 mod book;
 mod holds;
 mod homes;
 pub mod laws;
 mod limits;
 mod operator;
-mod outcome;
 mod past;
 mod refusals;
 mod serial;
 mod worklist;
 
+pub use body_log::BodyLog;
 pub use book::Book;
 pub use gx_base::{Act, Commit, Step};
 pub use limits::{MOST_COMMITS, MOST_STEPS};
 pub use operator::Operator;
-pub use outcome::Outcome;
 pub use refusals::CommitRefuse;
 pub use serial::{SerialStop, commit_item, order_is_determined, run_serially};
 pub use worklist::Worklist;

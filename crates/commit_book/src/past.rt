@@ -20,12 +20,12 @@ pub struct Past {
 impl Model for Past {
     ghost use Rattle.std.specs.Prelude.{List};
     ghost use Rattle.std.specs.Coded.{coded_list};
-    ghost use Rattle.gx_base.specs.Outcomes.{Commit as WholeCommit, commit_code};
+    ghost use Rattle.gx_base.specs.Outcomes.{WholeCommit, whole_commit_code};
     ghost use Rattle.commit_book.specs.StoredBooks.{whole_commits, AddUp};
 
     ghost Value = { List WholeCommit };
 
-    ghost coded = { coded_list commit_code };
+    ghost coded = { coded_list whole_commit_code };
 
     ghost view = { λ past. whole_commits past.commits.items past.journal.items past.push_counts.items past.pushes.items };
 

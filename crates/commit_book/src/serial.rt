@@ -8,7 +8,7 @@ ghost use Rattle.commit_book.specs.declared.serial.SerialStop.TheVariants as sto
 ghost use Rattle.std.specs.declared.result.Result.TheVariants.{Err};
 
 use crate::limits::MOST_COMMITS;
-use crate::{Operator, Outcome, Worklist};
+use crate::{BodyLog, Operator, Worklist};
 use gx_base::{Act, Commit, Item, NoMemory, Reply, SeqType, Step};
 use std::alloc::{AllocFailed, Global};
 
@@ -41,7 +41,7 @@ fn run_body<O: Operator, T: SeqType>(
     op: &O,
     item: Item,
     rooms: &mut [T],
-    outcome: &mut Outcome,
+    outcome: &mut BodyLog,
 ) -> Result<(), NoMemory>
     requires { O.room_count op.now ≡ length rooms.old }
     ensures { OnOk result (body (O.plan op.now item) (in_rooms (map T.state rooms.old)) ≡ record { outcome = outcome_of outcome.new; states = in_rooms (map T.state rooms.new) }) }
@@ -73,7 +73,7 @@ pub fn commit_item<O: Operator, T: SeqType>(
     item: Item,
     rooms: &mut [T],
     worklist: &mut Worklist,
-    outcome: &mut Outcome,
+    outcome: &mut BodyLog,
 ) -> Result<(), NoMemory>
     requires { O.room_count op.now ≡ length rooms.old }
     ensures ran { OnOk result (body (O.plan op.now item) (in_rooms (map T.state rooms.old)) ≡ record { outcome = outcome_of outcome.new; states = in_rooms (map T.state rooms.new) }) }
@@ -99,7 +99,7 @@ pub fn run_serially<O: Operator, T: SeqType>(
     let mut worklist = Worklist::new(alloc);
     worklist.insert_all(ready)?;
     let mut commits = Vec::new(alloc);
-    let mut outcome = Outcome::new(alloc);
+    let mut outcome = BodyLog::new(alloc);
     while let Some(item) = worklist.least() {
         if commits.len() == MOST_COMMITS {
             return Err(SerialStop::Spent);

@@ -1,7 +1,11 @@
 //! The order of conditions: their classes, the bounds of those that locks can keep, and when one
 //! condition, or a table of them, is below another.
 //!
-//! To start with: `specs/Grades.antt` has the classes, `specs/Simple.antt` the order and the bounds of simple
+//! `class(&cond)` and `table_class(kind, &table)` give a class; `strengthen(alloc, &cond)?` gives a simple condition below
+//! another, `meet` and `join` the bounds of two simple ones; `row_below(&lower, &upper)` and
+//! `below(kind, &lower, &upper)` decide the order of rows and of tables.
+//!
+//! `specs/Grades.antt` has the classes, `specs/Simple.antt` the order and the bounds of simple
 //! conditions, `specs/Same.antt` when two conditions are the same, `specs/Derivations.antt` the rules by which a
 //! row is below another, `specs/Tables.antt` what they say of whole tables. `laws` has what follows for callers.
 #![tactic(auto)]

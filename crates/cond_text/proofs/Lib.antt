@@ -1,4 +1,3 @@
-pub mod CallerLemmas
 pub mod methods
 pub mod reading
 pub mod texts

@@ -1,2 +1,1 @@
 pub mod MethodNames
-pub mod PrintedRows

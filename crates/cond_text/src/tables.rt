@@ -3,7 +3,7 @@
 mod line_faults;
 mod lines;
 mod reader;
-mod rows;
+mod row_lines;
 
 ghost use Rattle.std.specs.Prelude.{◌≡◌, ℕ, ◌≤◌, length, IfOk, IfErr, List};
 ghost use Rattle.gx_base.specs.declared.kinds.Kind.{Kind};

@@ -6,12 +6,11 @@ ghost use Rattle.gx_base.specs.Kinds.{kind_number};
 ghost use Rattle.gx_base.specs.Methods as methods;
 ghost use Rattle.cond_syntax.specs.Written as written;
 ghost use Rattle.cond_syntax.specs.TableTexts as texts;
-ghost use Rattle.cond_syntax.specs.TableTexts.{kind_text};
 
 use gx_base::{Kind, Part, Side, Term, method_at, word_of};
 
 /// No kind has more methods.
-const MOST_METHODS: u32 = 6;
+const MOST_METHODS: u32 = 8;
 
 /// The kind with this word.
 pub(crate) fn kind_named(word: &[u8]) -> Option<Kind>
@@ -29,19 +28,6 @@ pub(crate) fn kind_named(word: &[u8]) -> Option<Kind>
         Some(Kind::Domains)
     } else {
         None
-    }
-}
-
-/// The word of a kind.
-pub(crate) fn kind_word(kind: Kind) -> &'static str
-    ensures { result.now ≡ kind_text kind }
-{
-    match kind {
-        Kind::Set => "set",
-        Kind::Cells => "cells",
-        Kind::Flow => "flow",
-        Kind::Points => "points",
-        Kind::Domains => "domains",
     }
 }
 
@@ -130,7 +116,7 @@ pub(crate) fn method_named(kind: Kind, word: &[u8]) -> Option<u32>
 
 /// The first method of a kind with this word, by rising number.
 fn first_named(kind: Kind, word: &[u8]) -> Option<u32>
-    ensures { result ≡ find (λ method. bytes_eq (methods.word_of method) word.now) (filter_map (λ place. methods.method_at (kind_number kind) place) (range_with_len 0 6)) }
+    ensures { result ≡ find (λ method. bytes_eq (methods.word_of method) word.now) (filter_map (λ place. methods.method_at (kind_number kind) place) (range_with_len 0 methods.most_methods)) }
 {
     (0..MOST_METHODS)
         .filter_map(|place| method_at(kind, place))

@@ -1,5 +1,6 @@
 -- What the methods of a flow shard use, as the meanings of calls name it.
 use Rattle.std.specs.Prelude.{ℕ, Option, Some, None}
+use Rattle.gx_base.specs.FlowKind.{height_sort, excess_sort, flow_sort}
 use Rattle.gx_base.specs.RegisterDeeds as meaning
 use Rattle.flow_graph.specs.declared.uses.Quantity.{Quantity}
 use Rattle.flow_graph.specs.declared.uses.Quantity.TheVariants.{Height, Excess, Flow}
@@ -7,9 +8,9 @@ use Rattle.flow_graph.specs.declared.uses.Deed.{Deed}
 use Rattle.flow_graph.specs.declared.uses.Deed.TheVariants.{Reads, Adds, Sets}
 
 abbrev pub sort_of : Quantity → ℕ
-sort_of Height = 0
-sort_of Excess = 1
-sort_of Flow = 2
+sort_of Height = height_sort
+sort_of Excess = excess_sort
+sort_of Flow = flow_sort
 
 abbrev pub deed_of : Deed → meaning.Deed
 deed_of Reads = meaning.Reads

@@ -8,22 +8,11 @@ use gx_base::{Call, Choice, Kind, Made, NoMemory, Reply, Seen, SeqType, Table, e
 use std::test::Fail;
 
 fn call(method: u32, a: i64, b: i64) -> Call {
-    Call {
-        method,
-        a,
-        b,
-        c: 0,
-        d: 0,
-    }
+    Call::new(method, a, b, 0, 0)
 }
 
 fn reply(p: i64) -> Reply {
-    Reply {
-        p,
-        q: 0,
-        r: 0,
-        s: 0,
-    }
+    Reply::new(p, 0, 0, 0)
 }
 
 /// Does a call, takes it back and does it again.
@@ -35,6 +24,11 @@ fn done_again<T: SeqType>(object: &mut T, call: Call) -> Result<Reply, NoMemory>
     object.undo(call, reply);
     object.redo(call, reply);
     Ok(reply)
+}
+
+/// Whether a call that is done, taken back and done again replies this number.
+fn replies<T: SeqType>(object: &mut T, call: Call, number: i64) -> Result<bool, NoMemory> {
+    Ok(done_again(object, call)? == reply(number))
 }
 
 /// Takes back a call, where it has room.
@@ -52,35 +46,33 @@ fn needs<T: Send + Drop>(_value: &T) {}
 fn a_gain_is_taken_back_alone(rt: HostRuntime) -> Result<(), Fail> {
     let mut shard = FlowShard::new(rt.alloc());
     needs(&shard);
-    assert_eq!(rt; done_again(&mut shard, call(GAIN, 3, 5))?, reply(0));
-    assert_eq!(rt; done_again(&mut shard, call(GAIN, 3, 7))?, reply(0));
+    assert!(rt; replies(&mut shard, call(GAIN, 3, 5), 0)?);
+    assert!(rt; replies(&mut shard, call(GAIN, 3, 7), 0)?);
     assert_eq!(rt; shard.excess(3), 12);
-    assert_eq!(rt; done_again(&mut shard, call(EXCESS, 3, 0))?, reply(12));
+    assert!(rt; replies(&mut shard, call(EXCESS, 3, 0), 12)?);
     assert!(rt; taken_back(&mut shard, call(GAIN, 3, 5), reply(0)));
-    assert_eq!(rt;
-        (shard.excess(3), shard.height(3), shard.flow(3)),
-        (7, 0, 0)
-    );
+    assert_eq!(rt; shard.excess(3), 7);
+    assert_eq!(rt; shard.height(3), 0);
+    assert_eq!(rt; shard.flow(3), 0);
     Ok(())
 }
 
 #[test]
 fn a_relabel_is_taken_back_to_the_old_height(rt: HostRuntime) -> Result<(), Fail> {
     let mut shard = FlowShard::new(rt.alloc());
-    assert_eq!(rt; done_again(&mut shard, call(RELABEL, 4, 2))?, reply(0));
-    assert_eq!(rt; done_again(&mut shard, call(RELABEL, 4, 6))?, reply(2));
-    assert_eq!(rt; done_again(&mut shard, call(HEIGHT, 4, 0))?, reply(6));
+    assert!(rt; replies(&mut shard, call(RELABEL, 4, 2), 0)?);
+    assert!(rt; replies(&mut shard, call(RELABEL, 4, 6), 2)?);
+    assert!(rt; replies(&mut shard, call(HEIGHT, 4, 0), 6)?);
     assert!(rt; taken_back(&mut shard, call(RELABEL, 4, 6), reply(2)));
     assert_eq!(rt; shard.height(4), 2);
-    assert_eq!(rt; done_again(&mut shard, call(SEND, 4, i64::MAX))?, reply(0));
-    assert_eq!(rt; done_again(&mut shard, call(SEND, 4, 1))?, reply(0));
-    assert_eq!(rt; done_again(&mut shard, call(FLOW, 4, 0))?, reply(i64::MIN));
-    assert_eq!(rt;
-        (shard.height(4), shard.excess(4), shard.observe(4)),
-        (2, 0, 0)
-    );
+    assert!(rt; replies(&mut shard, call(SEND, 4, i64::MAX), 0)?);
+    assert!(rt; replies(&mut shard, call(SEND, 4, 1), 0)?);
+    assert!(rt; replies(&mut shard, call(FLOW, 4, 0), i64::MIN)?);
+    assert_eq!(rt; shard.height(4), 2);
+    assert_eq!(rt; shard.excess(4), 0);
+    assert_eq!(rt; shard.observe(4), 0);
     // A call of another kind of object does nothing.
-    assert_eq!(rt; done_again(&mut shard, call(9, 4, 5))?, reply(0));
+    assert!(rt; replies(&mut shard, call(9, 4, 5), 0)?);
     Ok(())
 }
 
@@ -95,8 +87,8 @@ fn tidy_keeps_the_numbers_and_drops_dead_rows(rt: HostRuntime) -> Result<(), Fai
             assert!(rt; taken_back(&mut shard, call(method, key, 5), reply(0)));
         }
         shard.tidy()?;
-        assert_eq!(rt; shard.apply(call(reads, 0, 0))?, reply(5));
-        assert_eq!(rt; shard.apply(call(reads, 1, 0))?, reply(0));
+        assert!(rt; shard.apply(call(reads, 0, 0))?.p == 5);
+        assert!(rt; shard.apply(call(reads, 1, 0))?.p == 0);
         assert!(rt; shard.roomed(call(method, 0, 5), reply(0)));
         assert!(rt; !shard.roomed(call(method, 1, 5), reply(0)));
         assert!(rt; shard.roomed(call(reads, 1, 0), reply(0)));
@@ -173,7 +165,7 @@ fn shipped_rows_hold_where_they_should(rt: HostRuntime) -> Result<(), Fail> {
         let first = made(first);
         let second = made(second);
         for (table, want) in [&precise, &simple, &rw, &global].into_iter().zip(want) {
-            assert_eq!(rt; holds(table, &first, &second), want);
+            assert!(rt; holds(table, &first, &second) == want);
         }
         assert!(rt; !holds(&cells, &first, &second));
     }

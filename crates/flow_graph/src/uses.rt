@@ -7,19 +7,19 @@ ghost use Rattle.flow_graph.specs.Uses.{sort_of, use_from};
 pub const HEIGHT: u32 = 16;
 
 /// Sets the height of a node.
-pub const RELABEL: u32 = 17;
+pub const RELABEL: u32 = HEIGHT + 1;
 
 /// Reads the excess of a node.
-pub const EXCESS: u32 = 18;
+pub const EXCESS: u32 = HEIGHT + 2;
 
 /// Adds to the excess of a node.
-pub const GAIN: u32 = 19;
+pub const GAIN: u32 = HEIGHT + 3;
 
 /// Reads the flow of an arc.
-pub const FLOW: u32 = 20;
+pub const FLOW: u32 = HEIGHT + 4;
 
 /// Adds to the flow of an arc.
-pub const SEND: u32 = 21;
+pub const SEND: u32 = HEIGHT + 5;
 
 /// The first method of flow shards, and what follows the last.
 pub(crate) const FIRST_METHOD: u32 = HEIGHT;

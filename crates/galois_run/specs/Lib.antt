@@ -1,7 +1,7 @@
 pub mod Statuses
 pub mod Words
 pub mod Inputs
-pub mod Meanings
+pub mod CommandMeaning
 pub mod commands
 pub mod CommandMeanings
 pub mod RunFaults

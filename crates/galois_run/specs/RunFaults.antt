@@ -11,7 +11,7 @@ use Rattle.galois_run.specs.declared.run_faults.RunFault.TheVariants.{BadInput, 
 use Rattle.galois_run.specs.declared.status.Status.{Status}
 use Rattle.galois_run.specs.declared.status.Status.TheVariants as statuses
 use Rattle.galois_run.specs.Inputs.{Inputs}
-use Rattle.galois_run.specs.Meanings.{Meaning}
+use Rattle.galois_run.specs.CommandMeaning.{CommandMeaning}
 
 -- whatever is wrong with the text of the file that a command reads, its line is told
 abbrev pub fault_of_text : TextFault → RunFault
@@ -40,7 +40,7 @@ pub record FaultsWhere {A : Type 0} (cause : Type 0) (fault : RunFault) (result 
   pub always : cause → (result ≡ Err fault) ⊎ (result ≡ Err NoMemory)
 
 -- what a command answers on its inputs is what it means: each fault comes exactly where the inputs call for it
-pub record Answers (meaning : Meaning) (inputs : Inputs) (result : Result (Vec ℕ Global) RunFault) : Type 0 where
+pub record Answers (meaning : CommandMeaning) (inputs : Inputs) (result : Result (Vec ℕ Global) RunFault) : Type 0 where
   pub reported : IfOk result (λ text. meaning.reported inputs text.items)
   pub malformed : (line : ℕ) → FaultsWhere (meaning.malformed inputs line) (BadInput line) result
   pub unfinished : FaultsWhere (meaning.unfinished inputs) Spent result

@@ -6,7 +6,7 @@ use Rattle.gx_base.specs.declared.inputs.What.{What}
 use Rattle.galois_run.specs.declared.status.Status.{Status}
 use Rattle.galois_run.specs.declared.status.Status.TheVariants.{Ok, Usage, BadInput, ReadFault, WriteFault, NoMemory, TooLarge, Spent, Kept, BadTable}
 use Rattle.galois_run.specs.Inputs.{Inputs, AreWithin}
-use Rattle.galois_run.specs.Meanings.{Meaning}
+use Rattle.galois_run.specs.CommandMeaning.{CommandMeaning}
 
 -- the answers that may come at any place, in place of the one that the input calls for
 abbrev pub GivesUp : Status → Type 0
@@ -18,30 +18,30 @@ pub record ComesWhere (cause : Type 0) (status result : Status) : Type 0 where
   pub always : cause → (result ≡ status) ⊎ GivesUp result
 
 -- each refusal of the inputs comes exactly where they call for it
-pub record IsCaused (meaning : Meaning) (inputs : Inputs) (status : Status) : Type 0 where
+pub record IsCaused (meaning : CommandMeaning) (inputs : Inputs) (status : Status) : Type 0 where
   pub too_large : (what : What) → ComesWhere (meaning.too_large inputs what) (TooLarge what) status
   pub bad_input : (line : ℕ) → ComesWhere (AreWithin inputs × meaning.malformed inputs line) (BadInput line) status
   pub spent : ComesWhere (AreWithin inputs × meaning.unfinished inputs) Spent status
 
 -- the inputs call for this report
-pub record IsReported (meaning : Meaning) (inputs : Inputs) (report : List ℕ) : Type 0 where
+pub record IsReported (meaning : CommandMeaning) (inputs : Inputs) (report : List ℕ) : Type 0 where
   pub within : AreWithin inputs
   pub is_report : meaning.reported inputs report
 
 -- the whole report was added, and flushed
-pub record IsWritten (meaning : Meaning) (inputs : Inputs) (before after : Option Written) : Type 0 where
+pub record IsWritten (meaning : CommandMeaning) (inputs : Inputs) (before after : Option Written) : Type 0 where
   pub report : List ℕ
   pub is_reported : IsReported meaning inputs report
   pub added : AddsWhole before after report
 
 -- a prefix of the report was added
-pub record IsCutShort (meaning : Meaning) (inputs : Inputs) (before after : Option Written) : Type 0 where
+pub record IsCutShort (meaning : CommandMeaning) (inputs : Inputs) (before after : Option Written) : Type 0 where
   pub report : List ℕ
   pub is_reported : IsReported meaning inputs report
   pub prefix : AddsFront before after report
 
 -- the statuses that a command answers, whatever the files tell
-abbrev pub IsAnswer : Meaning → Status → Type 0
+abbrev pub IsAnswer : CommandMeaning → Status → Type 0
 IsAnswer meaning (BadInput line) = meaning.lines line
 IsAnswer meaning (TooLarge what) = meaning.limits what
 IsAnswer meaning Spent = meaning.runs_on

@@ -3,7 +3,7 @@
 pub mod classify;
 pub mod flow;
 
-ghost use Rattle.galois_run.specs.CommandMeanings.{meaning_of};
+ghost use Rattle.galois_run.specs.CommandMeanings.{command_meaning};
 ghost use Rattle.galois_run.specs.Inputs.{inputs_in};
 ghost use Rattle.galois_run.specs.RunFaults.{Answers};
 ghost use Rattle.galois_run.specs.Words.{planned};
@@ -21,7 +21,7 @@ pub(crate) fn report_of(
     plan: &Plan,
     inputs: &InputFiles,
 ) -> Result<Vec<u8>, RunFault>
-    ensures { Answers (meaning_of (planned plan.now)) (inputs_in inputs.now) result }
+    ensures { Answers (command_meaning (planned plan.now)) (inputs_in inputs.now) result }
 {
     match plan.command() {
         Command::Flow => report_flow(alloc, inputs),

@@ -1,7 +1,8 @@
 //! The top call of Galois: the words of a command line, the files that it reads, and the report that it writes.
 //!
-//! `run_turns` is handed the words, the files and the sink, and answers a `Status`, which `status_line` and
-//! `status_number` tell. `specs/RunTurns.antt` has what a status says, `specs/commands/` what each command does.
+//! `run_turns(alloc, &words, &mut files, &mut out)` does what the words ask for, and answers a `Status`, which
+//! `status_line` and `status_number` tell. `specs/RunTurns.antt` has what a status says, `specs/commands/` what each
+//! command does.
 #![tactic(auto)]
 
 mod commands;

@@ -3,7 +3,7 @@
 ghost use Rattle.std.specs.Prelude.{◌≡◌, ◌≢◌, ◌↔◌, None, Err, IfSome, IfOk, IfErr, map, string_bytes, true, false};
 ghost use Rattle.gx_io.specs.Faults.{Counts};
 ghost use Rattle.gx_io.specs.Sinks.{AddsWhole, AddsFront};
-ghost use Rattle.galois_run.specs.CommandMeanings.{meaning_of};
+ghost use Rattle.galois_run.specs.CommandMeanings.{command_meaning};
 ghost use Rattle.galois_run.specs.Inputs.{inputs_of, OnInputs};
 ghost use Rattle.galois_run.specs.RunTurns.{IsCaused, IsReported, IsWritten, IsCutShort, IsAnswer, writes, IsRefusal, ending};
 ghost use Rattle.galois_run.specs.Words.{plan_of, planned};
@@ -24,13 +24,13 @@ pub fn run_turns<F: Files, K: Sink>(
     out: &mut K,
 ) -> Status
     // The command's report on its inputs was written whole and flushed.
-    ensures ok { result ≡ Status.Ok → OnInputs (plan_of (map string_bytes words.now)) (F.holds files.old) (λ plan inputs. IsWritten (meaning_of plan) inputs (K.told out.old) (K.told out.new)) }
+    ensures ok { result ≡ Status.Ok → OnInputs (plan_of (map string_bytes words.now)) (F.holds files.old) (λ plan inputs. IsWritten (command_meaning plan) inputs (K.told out.old) (K.told out.new)) }
 
     // Each refusal comes by its cause.
     ensures usage { (result ≡ Status.Usage) ↔ (plan_of (map string_bytes words.now) ≡ None) }
-    ensures caused { OnInputs (plan_of (map string_bytes words.now)) (F.holds files.old) (λ plan inputs. IsCaused (meaning_of plan) inputs result) }
-    ensures cut_short { result ≡ Status.WriteFault → OnInputs (plan_of (map string_bytes words.now)) (F.holds files.old) (λ plan inputs. IsCutShort (meaning_of plan) inputs (K.told out.old) (K.told out.new)) }
-    ensures answers { IfSome (plan_of (map string_bytes words.now)) (λ plan. IsAnswer (meaning_of plan) result) }
+    ensures caused { OnInputs (plan_of (map string_bytes words.now)) (F.holds files.old) (λ plan inputs. IsCaused (command_meaning plan) inputs result) }
+    ensures cut_short { result ≡ Status.WriteFault → OnInputs (plan_of (map string_bytes words.now)) (F.holds files.old) (λ plan inputs. IsCutShort (command_meaning plan) inputs (K.told out.old) (K.told out.new)) }
+    ensures answers { IfSome (plan_of (map string_bytes words.now)) (λ plan. IsAnswer (command_meaning plan) result) }
 
     // A count of faults rises with the status that tells the fault, and stays with every other.
     ensures read_fault { Counts (F.faults files.old) (F.faults files.new) (result ≡ Status.ReadFault) (result ≢ Status.ReadFault) }
@@ -49,11 +49,11 @@ pub fn run_turns<F: Files, K: Sink>(
 
 /// Makes the planned command's report on its inputs, and writes it.
 fn run_command<F: Files, K: Sink>(alloc: Global, plan: &Plan, files: &mut F, out: &mut K) -> Status
-    ensures ok { result ≡ Status.Ok → IfSome (inputs_of (planned plan.now) (F.holds files.old)) (λ inputs. IsWritten (meaning_of (planned plan.now)) inputs (K.told out.old) (K.told out.new)) }
+    ensures ok { result ≡ Status.Ok → IfSome (inputs_of (planned plan.now) (F.holds files.old)) (λ inputs. IsWritten (command_meaning (planned plan.now)) inputs (K.told out.old) (K.told out.new)) }
     ensures understood { result ≢ Status.Usage }
-    ensures caused { IfSome (inputs_of (planned plan.now) (F.holds files.old)) (λ inputs. IsCaused (meaning_of (planned plan.now)) inputs result) }
-    ensures cut_short { result ≡ Status.WriteFault → IfSome (inputs_of (planned plan.now) (F.holds files.old)) (λ inputs. IsCutShort (meaning_of (planned plan.now)) inputs (K.told out.old) (K.told out.new)) }
-    ensures answers { IsAnswer (meaning_of (planned plan.now)) result }
+    ensures caused { IfSome (inputs_of (planned plan.now) (F.holds files.old)) (λ inputs. IsCaused (command_meaning (planned plan.now)) inputs result) }
+    ensures cut_short { result ≡ Status.WriteFault → IfSome (inputs_of (planned plan.now) (F.holds files.old)) (λ inputs. IsCutShort (command_meaning (planned plan.now)) inputs (K.told out.old) (K.told out.new)) }
+    ensures answers { IsAnswer (command_meaning (planned plan.now)) result }
     ensures read_fault { Counts (F.faults files.old) (F.faults files.new) (result ≡ Status.ReadFault) (result ≢ Status.ReadFault) }
     ensures write_fault { Counts (K.faults out.old) (K.faults out.new) (result ≡ Status.WriteFault) (result ≢ Status.WriteFault) }
     ensures silent { writes result ≡ false → K.told out.new ≡ K.told out.old }
@@ -67,10 +67,10 @@ fn run_command<F: Files, K: Sink>(alloc: Global, plan: &Plan, files: &mut F, out
 
 /// Reads the files that the plan names, and makes the planned command's report on them.
 fn make_report<F: Files>(alloc: Global, plan: &Plan, files: &mut F) -> Result<Vec<u8>, Status>
-    ensures reported { IfOk result (λ text. IfSome (inputs_of (planned plan.now) (F.holds files.old)) (λ inputs. IsReported (meaning_of (planned plan.now)) inputs text.items)) }
-    ensures caused { IfSome (inputs_of (planned plan.now) (F.holds files.old)) (λ inputs. IsCaused (meaning_of (planned plan.now)) inputs (ending result)) }
+    ensures reported { IfOk result (λ text. IfSome (inputs_of (planned plan.now) (F.holds files.old)) (λ inputs. IsReported (command_meaning (planned plan.now)) inputs text.items)) }
+    ensures caused { IfSome (inputs_of (planned plan.now) (F.holds files.old)) (λ inputs. IsCaused (command_meaning (planned plan.now)) inputs (ending result)) }
     ensures refusal { IfErr result IsRefusal }
-    ensures answers { IfErr result (IsAnswer (meaning_of (planned plan.now))) }
+    ensures answers { IfErr result (IsAnswer (command_meaning (planned plan.now))) }
     ensures read_fault { Counts (F.faults files.old) (F.faults files.new) (result ≡ Err Status.ReadFault) (result ≢ Err Status.ReadFault) }
     ensures holds { F.holds files.new ≡ F.holds files.old }
 {

@@ -4,5 +4,4 @@ pub mod lawful
 pub mod deeds
 pub mod scans
 pub mod objects
-pub mod ShippedRows
 pub mod CallerLemmas

@@ -1,6 +1,6 @@
 ghost use Rattle.std.specs.Prelude.{◌≡◌, ◌+◌, ◌-◌, ◌^◌, ◌<◌, ◌≤◌, ◌++◌, length, vec_len, vec_capacity, Some, if◌then◌else◌};
 ghost use Rattle.gate_core.specs.Entries.{is_of, has_entry, entries_of, done_under};
-ghost use Rattle.gate_core.specs.Places.{IsLastPlace};
+ghost use Rattle.gate_core.specs.LastPlaces.{IsLastPlace};
 
 use gx_base::Entry;
 

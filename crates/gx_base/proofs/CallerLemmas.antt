@@ -12,7 +12,8 @@ pub use Rattle.gx_base.proofs.object_kinds.DomainLaws.{domain_deed-foreign, IsSu
 pub use Rattle.gx_base.proofs.object_kinds.KnownLaws.{laws_of, kind-next_state, next_state-IsState, undoes}
 pub use Rattle.gx_base.proofs.table_lemmas.BelowLaws.{IsBelow-itself, False-IsBelow, IsBelow-True, below-IsValid}
 pub use Rattle.gx_base.proofs.table_lemmas.TableRowLaws.{put_row, pair_cmp_total, same_pair, same_pair-is, same_pair-sym, same_pair-parts, row_of-empty, row_of-insert}
-pub use Rattle.gx_base.proofs.replays.CallReplays.{after-Legal, start_of-Legal, Legal-split, Legal-append}
+pub use Rattle.gx_base.proofs.table_lemmas.ShippedRows.{Serves, shipped_serves}
+pub use Rattle.gx_base.proofs.replays.CallReplays.{after-Legal, start_of-Legal, start_of-append, Legal-split, Legal-append}
 pub use Rattle.gx_base.proofs.replays.RoomReplays.{Replays-apart, Replays-merged, Replays-ends, Replays-split, Replays-append, part-append}
 pub use Rattle.gx_base.proofs.bodies.BodyReplays.{body-Replays}
 pub use Rattle.gx_base.proofs.bodies.ReplyRuns.{body-whole, RunsTo-body, RunsTo-call, RunsTo-push, RunsTo-done}

@@ -3,3 +3,4 @@ pub mod InBucket
 pub mod Buckets
 pub mod Agreeing
 pub mod BelowLaws
+pub mod ShippedRows

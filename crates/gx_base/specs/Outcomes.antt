@@ -25,24 +25,24 @@ abbrev pub after_push : Item → Outcome → Outcome
 after_push item o = record o { pushes = item ∷ o.pushes }
 
 -- an iteration that has committed
-pub record Commit : Type 0 where
+pub record WholeCommit : Type 0 where
   pub worker : ℕ
   pub iter : ℕ
   pub item : Item
   pub outcome : Outcome
 
 -- the commit order
-abbrev pub order_of : List Commit → List Item
+abbrev pub order_of : List WholeCommit → List Item
 order_of [] = []
 order_of (c ∷ cs) = c.item ∷ order_of cs
 
 -- what their bodies did
-abbrev pub outcomes_of : List Commit → List Outcome
+abbrev pub outcomes_of : List WholeCommit → List Outcome
 outcomes_of [] = []
 outcomes_of (c ∷ cs) = c.outcome ∷ outcomes_of cs
 
 -- the steps of all commits
-abbrev pub journal : List Commit → List Step
+abbrev pub journal : List WholeCommit → List Step
 journal [] = []
 journal (c ∷ cs) = c.outcome.steps ++ journal cs
 
@@ -62,8 +62,8 @@ outcome_code =
     (λ p. record { steps = p.0; pushes = p.1.0; withdrawn = p.1.1 })
     (λ _. refl)
 
-abbrev pub commit_code : Coded Commit
-commit_code =
+abbrev pub whole_commit_code : Coded WholeCommit
+whole_commit_code =
     code_by (ℕ × (ℕ × (Item × Outcome))) (coded× coded_ℕ (coded× coded_ℕ (coded× item_code outcome_code)))
     (λ c. (c.worker, (c.iter, (c.item, c.outcome))))
     (λ p. record { worker = p.0; iter = p.1.0; item = p.1.1.0; outcome = p.1.1.1 })

@@ -7,7 +7,7 @@ use Rattle.gx_base.specs.declared.acts.Entry.{Entry}
 use Rattle.gx_base.specs.States.{State, state_code}
 use Rattle.gx_base.specs.TableRows.{RowMap, row_map_code}
 use Rattle.gx_base.specs.Entries.{entry_code, mades_of, entries_by}
-use Rattle.gx_base.specs.Outcomes.{item_code, Commit, commit_code}
+use Rattle.gx_base.specs.Outcomes.{item_code, WholeCommit, whole_commit_code}
 use Rattle.gx_base.specs.Replays.{no_state, after, Legal}
 
 -- what a value of a room began as: a gate by its start, the number of its kind and its table, a book by its first ready set
@@ -31,7 +31,7 @@ first_state (OfBook ready ordered) = no_state
 pub record RoomView : Type 0 where
   pub live : List Entry
   pub done : List Entry
-  pub commits : List Commit
+  pub commits : List WholeCommit
   pub mark : ℕ
   pub origin : Origin
 
@@ -65,8 +65,8 @@ origin_code = code_by OriginFields (coded⊎ (coded× state_code (coded× coded_
 
 abbrev pub room_view_code : Coded RoomView
 room_view_code =
-    code_by (List Entry × (List Entry × (List Commit × (ℕ × Origin))))
-    (coded× (coded_list entry_code) (coded× (coded_list entry_code) (coded× (coded_list commit_code) (coded× coded_ℕ origin_code))))
+    code_by (List Entry × (List Entry × (List WholeCommit × (ℕ × Origin))))
+    (coded× (coded_list entry_code) (coded× (coded_list entry_code) (coded× (coded_list whole_commit_code) (coded× coded_ℕ origin_code))))
     (λ v. (v.live, (v.done, (v.commits, (v.mark, v.origin)))))
     (λ p. record { live = p.0; done = p.1.0; commits = p.1.1.0; mark = p.1.1.1.0; origin = p.1.1.1.1 })
     (λ _. refl)

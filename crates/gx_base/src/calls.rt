@@ -1,3 +1,5 @@
+ghost use Rattle.std.specs.Prelude.{◌≡◌};
+
 /// The number of a room: a place that holds one shared object.
 pub type Room = u32;
 
@@ -11,6 +13,15 @@ pub struct Call {
     pub d: i64,
 }
 
+impl Call {
+    /// A call of the method with this number.
+    pub const fn new(method: u32, a: i64, b: i64, c: i64, d: i64) -> Call
+        ensures { result ≡ record { method = method; a = a; b = b; c = c; d = d } }
+    {
+        Call { method, a, b, c, d }
+    }
+}
+
 /// What a call answers. A value that the method has no use for is 0.
 #[derive(Clone, Copy, Debug, PartialEq, Eq, Drop)]
 pub struct Reply {
@@ -18,6 +29,14 @@ pub struct Reply {
     pub q: i64,
     pub r: i64,
     pub s: i64,
+}
+
+impl Reply {
+    pub const fn new(p: i64, q: i64, r: i64, s: i64) -> Reply
+        ensures { result ≡ record { p = p; q = q; r = r; s = s } }
+    {
+        Reply { p, q, r, s }
+    }
 }
 
 /// A call with its reply.

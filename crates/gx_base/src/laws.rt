@@ -17,7 +17,7 @@ ghost use Rattle.gx_base.specs.Kinds.{kind_number};
 ghost use Rattle.gx_base.specs.Methods.{most_methods, words_of, is_method};
 ghost use Rattle.gx_base.specs.ForeignMethods.{ChangesNothing};
 ghost use Rattle.gx_base.specs.Plans.{Plan, Done, Operator, Follows};
-ghost use Rattle.gx_base.specs.Outcomes.{Commit, outcomes_of, journal};
+ghost use Rattle.gx_base.specs.Outcomes.{WholeCommit, outcomes_of, journal};
 ghost use Rattle.gx_base.specs.RoomViews.{RoomView, room_view_code};
 ghost use Rattle.gx_base.specs.Replays.{after, Legal, start_of, AreCalls, part, Replays};
 ghost use Rattle.gx_base.specs.BodyRuns.{then_step, RunsTo};
@@ -97,23 +97,23 @@ pub fn serial_iteration_splits()
 
 /// A serial run is one of any prefix of its commits, and then one of the others from where that ended.
 pub fn serial_runs_split_and_join()
-    ensures split { (op : Operator) (states : ℕ → State) (ready : List Item) (front rear : List Commit) (ended : Ended) → IsSerialRun op states ready (front ++ rear) ended → IsSerialRunInTwo op states ready front rear ended }
-    ensures joined { (op : Operator) (states : ℕ → State) (ready : List Item) (front rear : List Commit) (ended : Ended) → IsSerialRunInTwo op states ready front rear ended → IsSerialRun op states ready (front ++ rear) ended }
+    ensures split { (op : Operator) (states : ℕ → State) (ready : List Item) (front rear : List WholeCommit) (ended : Ended) → IsSerialRun op states ready (front ++ rear) ended → IsSerialRunInTwo op states ready front rear ended }
+    ensures joined { (op : Operator) (states : ℕ → State) (ready : List Item) (front rear : List WholeCommit) (ended : Ended) → IsSerialRunInTwo op states ready front rear ended → IsSerialRun op states ready (front ++ rear) ended }
 {}
 
 /// The journal of a serial run replays from its start to its end.
 pub fn journals_replay()
-    ensures { (op : Operator) (states : ℕ → State) (ready : List Item) (commits : List Commit) (ended : Ended) → IsSerialRun op states ready commits ended → Replays states (journal commits) ended.states }
+    ensures { (op : Operator) (states : ℕ → State) (ready : List Item) (commits : List WholeCommit) (ended : Ended) → IsSerialRun op states ready commits ended → Replays states (journal commits) ended.states }
 {}
 
 /// Commits in turn, each of a run of its body by replies, are a serial run where their journal replays.
 pub fn runs_in_turn_are_serial()
-    ensures { (op : Operator) (states ends : ℕ → State) (ready left : List Item) (commits : List Commit) → AreInTurn op.ordered ready commits left → AreRunsOf op commits → Replays states (journal commits) ends → IsSerialRun op states ready commits (record { states = ends; ready = left; outcomes = outcomes_of commits }) }
+    ensures { (op : Operator) (states ends : ℕ → State) (ready left : List Item) (commits : List WholeCommit) → AreInTurn op.ordered ready commits left → AreRunsOf op commits → Replays states (journal commits) ends → IsSerialRun op states ready commits (record { states = ends; ready = left; outcomes = outcomes_of commits }) }
 {}
 
 /// Commits of which each was the least ready one at its turn, with what their bodies did, are a serial run, ordered or not.
 pub fn least_first_runs_are_serial()
-    ensures { (op : Operator) (states : ℕ → State) (ready : List Item) (commits : List Commit) (ended : Ended) → IsLeastFirst op states ready commits ended → outcomes_of commits ≡ ended.outcomes → IsSerialRun op states ready commits ended }
+    ensures { (op : Operator) (states : ℕ → State) (ready : List Item) (commits : List WholeCommit) (ended : Ended) → IsLeastFirst op states ready commits ended → outcomes_of commits ≡ ended.outcomes → IsSerialRun op states ready commits ended }
 {}
 
 /// What rooms tell of their values is stored by codes that tell any two of them apart.

@@ -2,7 +2,7 @@ ghost use Rattle.std.specs.Prelude.{◌≡◌, ℕ, ◌<◌, ◌↔◌, IsTrue, 
 ghost use Rattle.std.specs.FinMap as map;
 ghost use Rattle.std.specs.List.{position_from};
 ghost use Rattle.gx_base.specs.Conditions.{condition_of};
-ghost use Rattle.gx_base.specs.RowLists.{is_row_of, entry_of, entries_of, buckets_of, bucket_number, entries_in, row_map_of, AreBuckets, IsRowPut, AgreeOn};
+ghost use Rattle.gx_base.specs.RowLists.{is_row_of, table_row_of, table_rows_of, buckets_of, bucket_number, table_rows_in, row_map_of, AreBuckets, IsRowPut, AgreeOn};
 
 use crate::conditions::Cond;
 use crate::memory::NoMemory;
@@ -86,7 +86,7 @@ fn make_buckets(buckets: &mut Vec<Vec<Row>>, number: usize) -> Result<(), NoMemo
 /// Puts a row in its bucket, in the place of the one for the same methods.
 fn put_in_bucket(buckets: &mut Vec<Vec<Row>>, row: Row) -> Result<(), NoMemory>
     requires { AreBuckets 0 (buckets_of buckets.old.items) }
-    ensures ok { OnOk result (row_map_of (buckets_of buckets.new.items) ≡ map.insert (row_map_of (buckets_of buckets.old.items)) (entry_of row).0 (entry_of row).1) }
+    ensures ok { OnOk result (row_map_of (buckets_of buckets.new.items) ≡ map.insert (row_map_of (buckets_of buckets.old.items)) (table_row_of row).0 (table_row_of row).1) }
     ensures err { OnErr result (row_map_of (buckets_of buckets.new.items) ≡ row_map_of (buckets_of buckets.old.items)) }
     ensures kept { AreBuckets 0 (buckets_of buckets.new.items) }
 {
@@ -96,7 +96,7 @@ fn put_in_bucket(buckets: &mut Vec<Vec<Row>>, row: Row) -> Result<(), NoMemory>
 }
 
 fn copies(rows: &[Row], alloc: Global) -> Result<Vec<Row>, NoMemory>
-    ensures { IfOk result (λ copies. entries_of copies.items ≡ entries_of rows.now) }
+    ensures { IfOk result (λ copies. table_rows_of copies.items ≡ table_rows_of rows.now) }
 {
     let mut copies = Vec::with_capacity(alloc, rows.len())?;
     for row in rows {
@@ -117,7 +117,7 @@ fn bucket_copies(buckets: &[Vec<Row>], alloc: Global) -> Result<Vec<Vec<Row>>, N
 
 /// Whether two tables have the same rows for the methods of these.
 fn agree_on(rows: &[Row], one: &Table, other: &Table) -> bool
-    ensures { IsTrue result ↔ AgreeOn one.now other.now (entries_of rows.now) }
+    ensures { IsTrue result ↔ AgreeOn one.now other.now (table_rows_of rows.now) }
 {
     for row in rows {
         let here = one.row(row.first, row.second);
@@ -131,7 +131,7 @@ fn agree_on(rows: &[Row], one: &Table, other: &Table) -> bool
 
 /// Whether two tables have the same rows for the methods of all in these buckets.
 fn agree_on_all(buckets: &[Vec<Row>], one: &Table, other: &Table) -> bool
-    ensures { IsTrue result ↔ AgreeOn one.now other.now (entries_in (buckets_of buckets.now)) }
+    ensures { IsTrue result ↔ AgreeOn one.now other.now (table_rows_in (buckets_of buckets.now)) }
 {
     for bucket in buckets {
         if !agree_on(bucket, one, other) {
@@ -143,7 +143,7 @@ fn agree_on_all(buckets: &[Vec<Row>], one: &Table, other: &Table) -> bool
 
 impl Row {
     fn copy(&self, alloc: Global) -> Result<Row, NoMemory>
-        ensures { IfOk result (λ copy. entry_of copy ≡ entry_of self.now) }
+        ensures { IfOk result (λ copy. table_row_of copy ≡ table_row_of self.now) }
     {
         Ok(Row {
             first: self.first,

@@ -35,25 +35,25 @@ const METHODS: [(Kind, &str, u32); 21] = [
 #[test]
 fn methods_have_their_words(rt: HostRuntime) {
     for (kind, word, number) in METHODS {
-        assert_eq!(rt; method_of(kind, word), Some(number));
-        assert_eq!(rt; word_of(number), word);
+        assert!(rt; method_of(kind, word) == Some(number));
+        assert!(rt; word_of(number) == word);
     }
-    assert_eq!(rt; method_of(Kind::Set, "read"), None);
-    assert_eq!(rt; method_of(Kind::Cells, "adds"), None);
-    assert_eq!(rt; method_of(Kind::Domains, ""), None);
+    assert!(rt; method_of(Kind::Set, "read") == None);
+    assert!(rt; method_of(Kind::Cells, "adds") == None);
+    assert!(rt; method_of(Kind::Domains, "") == None);
     for number in [3, 7, 11, 15, 22, 31, 36, 47, 53] {
-        assert_eq!(rt; word_of(number), "?");
+        assert!(rt; word_of(number) == "?");
     }
 }
 
 #[test]
 fn methods_have_their_places(rt: HostRuntime) {
-    assert_eq!(rt; method_at(Kind::Set, 2), Some(2));
-    assert_eq!(rt; method_at(Kind::Set, 3), None);
-    assert_eq!(rt; method_at(Kind::Flow, 5), Some(21));
-    assert_eq!(rt; method_at(Kind::Flow, 6), None);
-    assert_eq!(rt; method_at(Kind::Domains, 4), Some(52));
-    assert_eq!(rt; method_at(Kind::Domains, u32::MAX), None);
+    assert!(rt; method_at(Kind::Set, 2) == Some(2));
+    assert!(rt; method_at(Kind::Set, 3) == None);
+    assert!(rt; method_at(Kind::Flow, 5) == Some(21));
+    assert!(rt; method_at(Kind::Flow, 6) == None);
+    assert!(rt; method_at(Kind::Domains, 4) == Some(52));
+    assert!(rt; method_at(Kind::Domains, u32::MAX) == None);
 }
 
 fn spot(id: i64, x: i64, y: i64) -> Spot {
@@ -97,8 +97,8 @@ fn made(method: u32, values: [i64; 4], replies: [i64; 4]) -> Made {
     let [a, b, c, d] = values;
     let [p, q, r, s] = replies;
     Made {
-        call: Call { method, a, b, c, d },
-        reply: Reply { p, q, r, s },
+        call: Call::new(method, a, b, c, d),
+        reply: Reply::new(p, q, r, s),
     }
 }
 
@@ -168,14 +168,14 @@ fn on_adds(cond: &Cond) -> [bool; 3] {
 fn conditions_are_evaluated(rt: HostRuntime) -> Result<(), Fail> {
     let alloc = rt.alloc();
     let cond = two_adds(alloc)?;
-    assert_eq!(rt; on_adds(&cond), [true, false, true]);
+    assert!(rt; on_adds(&cond) == [true, false, true]);
     let not = Cond::Not(Box::new(alloc, cond)?);
-    assert_eq!(rt; on_adds(&not), [false, true, false]);
+    assert!(rt; on_adds(&not) == [false, true, false]);
     let at_most = Cond::Le(Term::Value(Side::First, 0), Term::Value(Side::Second, 0));
-    assert_eq!(rt; on_adds(&at_most), [true, true, true]);
+    assert!(rt; on_adds(&at_most) == [true, true, true]);
     let below = Cond::Lt(Term::Value(Side::First, 0), Term::Value(Side::Second, 0));
-    assert_eq!(rt; on_adds(&below), [true, false, false]);
-    assert_eq!(rt; on_adds(&both(alloc, Cond::True, Cond::False)?), [false; 3]);
+    assert!(rt; on_adds(&below) == [true, false, false]);
+    assert!(rt; on_adds(&both(alloc, Cond::True, Cond::False)?) == [false; 3]);
     Ok(())
 }
 
@@ -187,20 +187,20 @@ fn remembered<T>(kept: Result<T, NoMemory>) -> Result<T, Fail> {
 fn tables_keep_their_rows(rt: HostRuntime) -> Result<(), Fail> {
     let alloc = rt.alloc();
     let mut table = Table::blank(alloc);
-    assert_eq!(rt; on_adds(table.row(0, 0)), [false; 3]);
+    assert!(rt; on_adds(table.row(0, 0)) == [false; 3]);
     remembered(table.put(0, 0, Cond::True))?;
     remembered(table.put(0, 1, Cond::True))?;
     remembered(table.put(0, 0, two_adds(alloc)?))?;
     let copy = remembered(table.copy())?;
     remembered(table.put(0, 1, Cond::False))?;
     for rows in [&table, &copy] {
-        assert_eq!(rt; on_adds(rows.row(0, 0)), [true, false, true]);
-        assert_eq!(rt; on_adds(rows.row(1, 0)), [false; 3]);
+        assert!(rt; on_adds(rows.row(0, 0)) == [true, false, true]);
+        assert!(rt; on_adds(rows.row(1, 0)) == [false; 3]);
     }
-    assert_eq!(rt; on_adds(table.row(0, 1)), [false; 3]);
-    assert_eq!(rt; on_adds(copy.row(0, 1)), [true; 3]);
+    assert!(rt; on_adds(table.row(0, 1)) == [false; 3]);
+    assert!(rt; on_adds(copy.row(0, 1)) == [true; 3]);
     let twin = remembered(copy.row(0, 0).copy(alloc))?;
-    assert_eq!(rt; on_adds(&twin), [true, false, true]);
+    assert!(rt; on_adds(&twin) == [true, false, true]);
     Ok(())
 }
 

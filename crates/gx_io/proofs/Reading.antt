@@ -3,7 +3,7 @@ use Rattle.std.proofs.Common.{◌≡◌, ◌↔◌, ℕ, zero, suc, ◌+◌, ◌
 use Rattle.std.specs.Global.{Global}
 use Rattle.std.proofs.lemmas.List.{drop-drop, nil_from_length, at_drop_more}
 use Rattle.gx_io.specs.Files.{Gives}
-use Rattle.gx_io.specs.Places.{bytes_of, bytes_at}
+use Rattle.gx_io.specs.NamedFiles.{bytes_of, bytes_at}
 
 abbrev File : Type 0
 File = String Global × Vec ℕ Global

@@ -2,7 +2,7 @@ pub mod Faults
 pub mod Refusals
 pub mod Files
 pub mod Sinks
-pub mod Places
+pub mod NamedFiles
 pub mod Schedules
 pub mod MemFiles
 pub mod MemSink

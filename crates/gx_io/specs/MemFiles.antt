@@ -1,7 +1,7 @@
 -- Files in memory.
 use Rattle.std.specs.Prelude.{ℕ, List, Option, IsSome}
 use Rattle.gx_io.specs.declared.memory_files.MemFiles.{MemFiles}
-use Rattle.gx_io.specs.Places.{bytes_of, rest_of}
+use Rattle.gx_io.specs.NamedFiles.{bytes_of, rest_of}
 use Rattle.gx_io.specs.Schedules.{Schedule, schedule}
 
 -- what a name holds: what the first file of this name does

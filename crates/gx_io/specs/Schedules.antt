@@ -1,6 +1,6 @@
--- Calls by number, some of which are to fail.
+-- NumberedCalls by number, some of which are to fail.
 use Rattle.std.specs.Prelude.{ℕ, ◌+◌, min, List, Contains}
-use Rattle.gx_io.specs.declared.calls.Calls.{Calls}
+use Rattle.gx_io.specs.declared.numbered_calls.NumberedCalls.{NumberedCalls}
 
 -- the number of the next call, from 0, and the numbers of those that are to fail
 pub record Schedule : Type 0 where
@@ -8,7 +8,7 @@ pub record Schedule : Type 0 where
   pub failing : List ℕ
 
 -- what calls were made, and are to fail
-abbrev pub schedule : Calls → Schedule
+abbrev pub schedule : NumberedCalls → Schedule
 schedule calls = record { next = calls.made; failing = calls.failing.items }
 
 -- no call was made yet

@@ -1,16 +1,17 @@
 //! Files that are read whole and a sink that is written whole, with every fault counted.
 //!
-//! Start at `Files` and `read_whole`, and at `Sink` and `write_whole`. `StdFiles` and `StdSink` are
-//! the real files and standard output. `MemFiles` and `MemSink` stand in memory, and fail at the
-//! calls that a test chooses; `NeverFails` round one of these answers no failure.
+//! `read_whole(alloc, &mut files, name, limit)?` gives a file's bytes, `write_whole(&mut sink, &text)?` writes and
+//! flushes. `StdFiles::new(&rt)` and `StdSink::new(&rt)` are the real files and standard output. `MemFiles` and
+//! `MemSink` stand in memory, and fail at the calls that a test chooses; `NeverFails` round one of these answers no
+//! failure. Start at the traits `Files` and `Sink`.
 #![tactic(auto)]
 
-mod calls;
 mod fault;
 mod files;
 mod memory_files;
 mod memory_sink;
 mod never;
+mod numbered_calls;
 mod real;
 mod sinks;
 #[cfg(test)]

@@ -2,20 +2,20 @@
 
 ghost use Rattle.std.specs.Prelude.{◌≡◌, ◌≤◌, ◌<◌, ℕ, List, [], length, min, take, drop, Option, Some, None, IsSome, MatchOption, IfSome, IfOk, OnOk, OnErr, IsOk, IsErrOf, IsTrue, IsFalse, ◌+◌, ◌^◌, ◌↔◌};
 ghost use Rattle.gx_io.specs.Faults.{Counts};
-ghost use Rattle.gx_io.specs.Places.{bytes_of, bytes_at, rest_of};
+ghost use Rattle.gx_io.specs.NamedFiles.{bytes_of, bytes_at, rest_of};
 ghost use Rattle.gx_io.specs.Files.{Gives};
 ghost use Rattle.gx_io.specs.Schedules.{fresh, FailsNext, after_call};
 
-use crate::calls::Calls;
 use crate::fault::IoFault;
 use crate::files::Files;
+use crate::numbered_calls::NumberedCalls;
 
-/// Files in memory by name. Calls of `start` and `read` are numbered together from 0, and those
+/// Files in memory by name. NumberedCalls of `start` and `read` are numbered together from 0, and those
 /// whose numbers were chosen fail. A start of an absent name fails too.
 #[derive(Drop)]
 pub struct MemFiles {
     files: Vec<(String, Vec<u8>)>,
-    calls: Calls,
+    calls: NumberedCalls,
     // The place of the started file; one past the last file holds nothing.
     started: Option<usize>,
     // How many of its bytes were read.
@@ -36,7 +36,7 @@ impl MemFiles {
     {
         MemFiles {
             files,
-            calls: Calls::new(failing),
+            calls: NumberedCalls::new(failing),
             started: None,
             at: 0,
         }

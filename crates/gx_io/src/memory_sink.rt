@@ -7,22 +7,22 @@ ghost use Rattle.gx_io.specs.Schedules.{fresh, FailsNext, after_call};
 ghost use Rattle.gx_io.specs.Sinks.{Adds, Flushes};
 ghost use Rattle.gx_io.specs.declared.memory_sink.TheConstants.{ROOM};
 
-use crate::calls::Calls;
 use crate::fault::{NoMemory, SinkFailed};
+use crate::numbered_calls::NumberedCalls;
 use crate::sinks::Sink;
 use std::alloc::Global;
 
 // How many bytes there is room for.
 const ROOM: usize = 1_048_576;
 
-/// A sink in memory. Calls of `write` and `flush` are numbered together from 0, and those whose
+/// A sink in memory. NumberedCalls of `write` and `flush` are numbered together from 0, and those whose
 /// numbers were chosen fail. A write past 1,048,576 bytes fails too, whole.
 #[derive(Drop)]
 pub struct MemSink {
     bytes: Vec<u8>,
     most: usize,
     flushed: bool,
-    calls: Calls,
+    calls: NumberedCalls,
     ghost takes_some: { 1 ≤ most },
     ghost within_room: { vec_len bytes ≤ ROOM },
     ghost has_room: { ROOM ≤ vec_capacity bytes },
@@ -44,7 +44,7 @@ impl MemSink {
             bytes: Vec::with_capacity(alloc, ROOM)?,
             most,
             flushed: false,
-            calls: Calls::new(failing),
+            calls: NumberedCalls::new(failing),
         })
     }
 

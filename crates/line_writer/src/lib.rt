@@ -1,4 +1,7 @@
-//! Lines of text: fields with one space between and a line feed at the end, as reports and printed tables have them.
+//! Lines of text: fields with one space between and a line feed at the end, as reports have them.
+//!
+//! `put_line(&mut text, &[Field::Word("a"), Field::Number(-3)])?` adds `a -3` and a line feed at the end of the bytes
+//! `text`. `specs/Lines.antt` says what a line is.
 #![tactic(auto)]
 
 ghost use Rattle.std.specs.Prelude.{◌≡◌, ◌++◌, ◌∷◌, map, OnOk};

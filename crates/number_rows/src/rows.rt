@@ -24,7 +24,7 @@ impl NumberRows {
     ghost use Rattle.std.specs.List.{IsDistinct};
     ghost use Rattle.std.specs.Map.{keys_of};
     ghost use Rattle.std.specs.Ordering.{int_eq};
-    ghost use Rattle.number_rows.specs.Rows.{number_in};
+    ghost use Rattle.number_rows.specs.NumbersAsRows.{number_in};
     ghost use Rattle.number_rows.specs.NumberRows.{rows_of, dead_rows, IsLean};
 
     /// No rows: each number is 0.
@@ -41,8 +41,8 @@ impl NumberRows {
     pub fn value(&self, key: i64) -> i64
         ensures { result ≡ number_in (rows_of self.now) key }
     {
-        match self.numbers.get(&key) {
-            Some(number) => *number,
+        match self.found(key) {
+            Some(number) => number,
             None => 0,
         }
     }
@@ -51,7 +51,16 @@ impl NumberRows {
     pub fn has_row(&self, key: i64) -> bool
         ensures { result ≡ map.contains_key (rows_of self.now) key }
     {
-        self.numbers.contains_key(&key)
+        self.found(key).is_some()
+    }
+
+    fn found(&self, key: i64) -> Option<i64>
+        ensures { result ≡ map.get (rows_of self.now) key }
+    {
+        match self.numbers.get(&key) {
+            Some(number) => Some(*number),
+            None => None,
+        }
     }
 
     /// Writes a number, and makes a row for it if need be.

@@ -2,29 +2,10 @@
 use Rattle.std.specs.Prelude.{ℕ, ◌+◌, ℤ, pos, unsigned_abs}
 use Rattle.std.specs.Int.{w64, int_wrapping_neg, int_rem_euclid}
 use Rattle.gx_base.specs.declared.calls.Call.{Call}
-use Rattle.gx_base.specs.FlowKind.{flow_first}
+pub use Rattle.gx_base.specs.FlowKind.{height_method, relabel_method, excess_method, gain_method, flow_method, send_method}
 
 abbrev pub call_of : ℕ → ℤ → ℤ → Call
 call_of method a b = record { method = method; a = a; b = b; c = pos 0; d = pos 0 }
-
--- the methods of flow shards
-abbrev pub height_method : ℕ
-height_method = flow_first
-
-abbrev pub relabel_method : ℕ
-relabel_method = flow_first + 1
-
-abbrev pub excess_method : ℕ
-excess_method = flow_first + 2
-
-abbrev pub gain_method : ℕ
-gain_method = flow_first + 3
-
-abbrev pub flow_method : ℕ
-flow_method = flow_first + 4
-
-abbrev pub send_method : ℕ
-send_method = flow_first + 5
 
 abbrev pub height : ℤ → Call
 height node = call_of height_method node (pos 0)

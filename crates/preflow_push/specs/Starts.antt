@@ -7,6 +7,7 @@ use Rattle.std.specs.FinMap as finite
 use Rattle.gx_base.specs.declared.items.Item.{Item}
 use Rattle.gx_base.specs.declared.kinds.Kind.TheVariants.{Flow}
 use Rattle.gx_base.specs.Kinds.{kind_number}
+use Rattle.gx_base.specs.FlowKind.{height_sort, excess_sort, flow_sort}
 use Rattle.gx_base.specs.States.{State, with_number}
 use Rattle.gx_base.specs.Replays.{in_rooms, put}
 use Rattle.preflow_push.specs.declared.network.Arc.{Arc}
@@ -20,13 +21,13 @@ abbrev pub set_in : ℕ → ℤ → ℤ → (ℕ → State) → ℕ → State
 set_in sort number x states = put states (room_of number) (with_number (states (room_of number)) (sort, number) x)
 
 abbrev pub with_height : ℤ → ℤ → (ℕ → State) → ℕ → State
-with_height node level states = set_in 0 node level states
+with_height node level states = set_in height_sort node level states
 
 abbrev pub with_gain : ℤ → ℤ → (ℕ → State) → ℕ → State
-with_gain node x states = set_in 1 node (int_wrapping_add w64 (excess_in states node) x) states
+with_gain node x states = set_in excess_sort node (int_wrapping_add w64 (excess_in states node) x) states
 
 abbrev pub with_flow : ℤ → ℤ → (ℕ → State) → ℕ → State
-with_flow arc x states = set_in 2 arc x states
+with_flow arc x states = set_in flow_sort arc x states
 
 -- an arc is full: its flow is its capacity, which the one end has lost and the other has gained
 abbrev pub filled : ℤ → Arc → (ℕ → State) → ℕ → State

@@ -1,10 +1,10 @@
 //! A network of four nodes, worked by hand.
 
-use crate::flow_calls::node_item;
+use crate::flow_calls::{flow_call, node_item};
 use crate::{Arc, Discharge, Network, report, start};
 use commit_book::{Commit, Operator};
 use flow_graph::{EXCESS, FLOW, FlowShard, GAIN, HEIGHT, RELABEL, SEND};
-use gx_base::{Act, Call, Item, NoMemory, Reply, SeqType};
+use gx_base::{Act, Item, NoMemory, Reply, SeqType};
 use std::alloc::Global;
 use std::test::Fail;
 
@@ -23,26 +23,10 @@ fn four_nodes(alloc: Global) -> Result<Network, NoMemory> {
     })
 }
 
-fn flow_call(method: u32, number: i64, amount: i64) -> Call {
-    Call {
-        method,
-        a: number,
-        b: amount,
-        c: 0,
-        d: 0,
-    }
-}
-
 /// The act of a call, and what the test lets it reply.
 fn asked(room: u32, method: u32, number: i64, amount: i64, value: i64) -> (Act, Option<Reply>) {
     let call = flow_call(method, number, amount);
-    let reply = Reply {
-        p: value,
-        q: 0,
-        r: 0,
-        s: 0,
-    };
-    (Act::Call { room, call }, Some(reply))
+    (Act::Call { room, call }, Some(Reply::new(value, 0, 0, 0)))
 }
 
 fn pushed(node: i64) -> (Act, Option<Reply>) {
@@ -131,13 +115,7 @@ fn other_items_have_nothing_to_do(rt: HostRuntime) -> Result<(), Fail> {
     assert!(rt; !operator.ordered());
     assert!(rt; follows(&operator, node_item(0), [].as_slice()));
     assert!(rt; follows(&operator, node_item(5), [].as_slice()));
-    let other_form = Item {
-        k0: 2,
-        k1: 1,
-        k2: 0,
-        k3: 0,
-    };
-    assert!(rt; follows(&operator, other_form, [].as_slice()));
+    assert!(rt; follows(&operator, Item::new(2, 1, 0, 0), [].as_slice()));
     Ok(())
 }
 

@@ -7,31 +7,7 @@ use kind_tables::laws::tables_below_shipped_ones_are_not_general;
 use std::alloc::Global;
 use std::test::Fail;
 
-const ITEM: Item = Item {
-    k0: 0,
-    k1: 0,
-    k2: 0,
-    k3: 0,
-};
-
-fn call(method: u32, a: i64, b: i64) -> Call {
-    Call {
-        method,
-        a,
-        b,
-        c: 0,
-        d: 0,
-    }
-}
-
-fn reply(p: i64) -> Reply {
-    Reply {
-        p,
-        q: 0,
-        r: 0,
-        s: 0,
-    }
-}
+const ITEM: Item = Item::new(0, 0, 0, 0);
 
 /// A gate on an empty shard. The plain scan can tell the conflicts of every table that flow ships.
 fn precise_gate(alloc: Global) -> Result<Gate<FlowShard, ScanScreen>, NoMemory> {
@@ -50,12 +26,12 @@ fn told(held: Call, replied: i64, asked: Call, would: i64) -> Told {
             iter: 0,
             item: ITEM,
             call: held,
-            reply: reply(replied),
+            reply: Reply::new(replied, 0, 0, 0),
             seen: 0,
             done: None,
         },
         asked,
-        would: reply(would),
+        would: Reply::new(would, 0, 0, 0),
         seen: Seen {
             first: 0,
             second: 0,
@@ -71,7 +47,7 @@ fn replies(
     asked: Call,
     value: i64,
 ) -> bool {
-    gate.call(worker, iter, ITEM, asked) == Ok(reply(value))
+    gate.call(worker, iter, ITEM, asked) == Ok(Reply::new(value, 0, 0, 0))
 }
 
 /// Whether a call of a worker's first iteration is refused so.
@@ -86,7 +62,7 @@ fn refuses(
 
 /// Whether this call with this reply is the last one of a worker's first iteration, which is taken back.
 fn undoes(gate: &mut Gate<FlowShard, ScanScreen>, worker: u32, call: Call, value: i64) -> bool {
-    gate.undo_last(worker, 0) == Some((call, reply(value)))
+    gate.undo_last(worker, 0) == Some((call, Reply::new(value, 0, 0, 0)))
 }
 
 fn release_as_first(gate: &mut Gate<FlowShard, ScanScreen>, worker: u32) -> bool {
@@ -100,20 +76,25 @@ fn release_as_first(gate: &mut Gate<FlowShard, ScanScreen>, worker: u32) -> bool
 #[test]
 fn gate_excess_gain(rt: HostRuntime) -> Result<(), Fail> {
     let mut gate = precise_gate(rt.alloc())?;
-    assert!(rt; replies(&mut gate, 0, 0, call(EXCESS, 4, 0), 0));
-    let refuse = GateRefuse::Conflict(told(call(EXCESS, 4, 0), 0, call(GAIN, 4, 1), 0));
-    assert!(rt; refuses(&mut gate, 1, call(GAIN, 4, 1), refuse));
-    assert!(rt; replies(&mut gate, 1, 0, call(GAIN, 4, 0), 0));
+    assert!(rt; replies(&mut gate, 0, 0, Call::new(EXCESS, 4, 0, 0, 0), 0));
+    let refuse = GateRefuse::Conflict(told(
+        Call::new(EXCESS, 4, 0, 0, 0),
+        0,
+        Call::new(GAIN, 4, 1, 0, 0),
+        0,
+    ));
+    assert!(rt; refuses(&mut gate, 1, Call::new(GAIN, 4, 1, 0, 0), refuse));
+    assert!(rt; replies(&mut gate, 1, 0, Call::new(GAIN, 4, 0, 0, 0), 0));
     Ok(())
 }
 
 #[test]
 fn gate_gain_undo(rt: HostRuntime) -> Result<(), Fail> {
     let mut gate = precise_gate(rt.alloc())?;
-    assert!(rt; replies(&mut gate, 0, 0, call(GAIN, 3, 5), 0));
-    assert!(rt; replies(&mut gate, 1, 0, call(GAIN, 3, 7), 0));
+    assert!(rt; replies(&mut gate, 0, 0, Call::new(GAIN, 3, 5, 0, 0), 0));
+    assert!(rt; replies(&mut gate, 1, 0, Call::new(GAIN, 3, 7, 0, 0), 0));
     assert_eq!(rt; gate.object().excess(3), 12);
-    assert!(rt; undoes(&mut gate, 0, call(GAIN, 3, 5), 0));
+    assert!(rt; undoes(&mut gate, 0, Call::new(GAIN, 3, 5, 0, 0), 0));
     assert_eq!(rt; gate.object().excess(3), 7);
     assert_eq!(rt; gate.live().len(), 1);
     assert!(rt; gate.undo_last(0, 0).is_none());
@@ -133,12 +114,17 @@ fn gate_gain_undo(rt: HostRuntime) -> Result<(), Fail> {
 #[test]
 fn gate_relabel_undo(rt: HostRuntime) -> Result<(), Fail> {
     let mut gate = precise_gate(rt.alloc())?;
-    assert!(rt; replies(&mut gate, 0, 0, call(RELABEL, 4, 2), 0));
-    let refuse = GateRefuse::Conflict(told(call(RELABEL, 4, 2), 0, call(HEIGHT, 4, 0), 2));
-    assert!(rt; refuses(&mut gate, 1, call(HEIGHT, 4, 0), refuse));
-    assert!(rt; replies(&mut gate, 0, 0, call(HEIGHT, 4, 0), 2));
-    assert!(rt; undoes(&mut gate, 0, call(HEIGHT, 4, 0), 2));
-    assert!(rt; undoes(&mut gate, 0, call(RELABEL, 4, 2), 0));
+    assert!(rt; replies(&mut gate, 0, 0, Call::new(RELABEL, 4, 2, 0, 0), 0));
+    let refuse = GateRefuse::Conflict(told(
+        Call::new(RELABEL, 4, 2, 0, 0),
+        0,
+        Call::new(HEIGHT, 4, 0, 0, 0),
+        2,
+    ));
+    assert!(rt; refuses(&mut gate, 1, Call::new(HEIGHT, 4, 0, 0, 0), refuse));
+    assert!(rt; replies(&mut gate, 0, 0, Call::new(HEIGHT, 4, 0, 0, 0), 2));
+    assert!(rt; undoes(&mut gate, 0, Call::new(HEIGHT, 4, 0, 0, 0), 2));
+    assert!(rt; undoes(&mut gate, 0, Call::new(RELABEL, 4, 2, 0, 0), 0));
     assert!(rt; gate.undo_last(0, 0).is_none());
     assert_eq!(rt; gate.object().height(4), 0);
     Ok(())
@@ -147,7 +133,7 @@ fn gate_relabel_undo(rt: HostRuntime) -> Result<(), Fail> {
 /// Whether 64 calls were let in, each on a node of its own, and taken back: so many dead rows are dropped at once.
 fn leaves_dead_rows(gate: &mut Gate<FlowShard, ScanScreen>) -> bool {
     for node in 10..74 {
-        let gain = call(GAIN, node, 5);
+        let gain = Call::new(GAIN, node, 5, 0, 0);
         if !replies(gate, 0, 0, gain, 0) || !undoes(gate, 0, gain, 0) {
             return false;
         }
@@ -158,15 +144,15 @@ fn leaves_dead_rows(gate: &mut Gate<FlowShard, ScanScreen>) -> bool {
 #[test]
 fn a_gate_without_uncommitted_entries_tidies_its_object(rt: HostRuntime) -> Result<(), Fail> {
     let mut gate = precise_gate(rt.alloc())?;
-    let gain = call(GAIN, 10, 5);
-    assert!(rt; replies(&mut gate, 1, 0, call(EXCESS, 7, 0), 0));
+    let gain = Call::new(GAIN, 10, 5, 0, 0);
+    assert!(rt; replies(&mut gate, 1, 0, Call::new(EXCESS, 7, 0, 0, 0), 0));
     assert!(rt; leaves_dead_rows(&mut gate));
     // The rows are dead now, and stay while the entry of worker 1 may still be undone.
-    assert!(rt; replies(&mut gate, 0, 0, call(EXCESS, 9, 0), 0));
-    assert!(rt; gate.object().roomed(gain, reply(0)));
-    assert!(rt; undoes(&mut gate, 0, call(EXCESS, 9, 0), 0));
-    assert!(rt; undoes(&mut gate, 1, call(EXCESS, 7, 0), 0));
-    assert!(rt; replies(&mut gate, 0, 1, call(EXCESS, 9, 0), 0));
-    assert!(rt; !gate.object().roomed(gain, reply(0)));
+    assert!(rt; replies(&mut gate, 0, 0, Call::new(EXCESS, 9, 0, 0, 0), 0));
+    assert!(rt; gate.object().roomed(gain, Reply::new(0, 0, 0, 0)));
+    assert!(rt; undoes(&mut gate, 0, Call::new(EXCESS, 9, 0, 0, 0), 0));
+    assert!(rt; undoes(&mut gate, 1, Call::new(EXCESS, 7, 0, 0, 0), 0));
+    assert!(rt; replies(&mut gate, 0, 1, Call::new(EXCESS, 9, 0, 0, 0), 0));
+    assert!(rt; !gate.object().roomed(gain, Reply::new(0, 0, 0, 0)));
     Ok(())
 }

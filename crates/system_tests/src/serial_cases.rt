@@ -29,25 +29,14 @@ const fn on_node(method: u32, node: i64, amount: i64) -> Act
 {
     Act::Call {
         room: 0,
-        call: Call {
-            method,
-            a: node,
-            b: amount,
-            c: 0,
-            d: 0,
-        },
+        call: Call::new(method, node, amount, 0, 0),
     }
 }
 
 const fn item_of(node: i64) -> Item
     ensures { result ≡ record { k0 = node; k1 = pos 0; k2 = pos 0; k3 = pos 0 } }
 {
-    Item {
-        k0: node,
-        k1: 0,
-        k2: 0,
-        k3: 0,
-    }
+    Item::new(node, 0, 0, 0)
 }
 
 impl Operator for Bump {

@@ -12,8 +12,10 @@ abbrev pub value_from : ℕ → List ℕ → ℕ
 value_from n [] = n
 value_from n (b ∷ bs) = value_from (10 * n + (b - 48)) bs
 
+-- what a field of digits alone spells
+unfoldable pub digits_value_of : List ℕ → Option ℕ
+digits_value_of field = if all_digits field then Some (value_from 0 field) else None
+
 -- the number of a field of 1 to 18 digits, whatever zeros lead it
 unfoldable pub number_of : List ℕ → Option ℕ
-number_of field =
-    if nat_lt 0 (length field) && nat_le (length field) 18 && all_digits field then Some (value_from 0 field)
-    else None
+number_of field = if nat_lt 0 (length field) && nat_le (length field) 18 then digits_value_of field else None

@@ -5,7 +5,7 @@ use Rattle.std.proofs.lemmas.Bool.{eqb-false, ltb-false}
 use Rattle.std.proofs.lemmas.List.{length-append}
 use Rattle.gx_base.specs.declared.acts.Step.{Step}
 use Rattle.gx_base.specs.declared.items.Item.{Item}
-use Rattle.gx_base.specs.Outcomes.{Outcome, Commit as WholeCommit, journal}
+use Rattle.gx_base.specs.Outcomes.{Outcome, WholeCommit, journal}
 use Rattle.gx_base.specs.SerialIterations.{may_commit, ready_after}
 use Rattle.gx_base.specs.SerialRuns.{AreInTurn}
 use Rattle.gx_base.specs.Worklists.{has_item, is_least, with_items, without_item}

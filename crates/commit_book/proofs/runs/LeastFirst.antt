@@ -9,9 +9,9 @@ use Rattle.std.specs.declared.cmp.Ordering.TheVariants.{Less, Equal, Greater}
 use Rattle.gx_base.specs.declared.items.Item.{Item}
 use Rattle.gx_base.specs.States.{State}
 use Rattle.gx_base.specs.Plans.{Operator}
-use Rattle.gx_base.specs.Outcomes.{Outcome, Commit, order_of}
+use Rattle.gx_base.specs.Outcomes.{Outcome, WholeCommit, order_of}
 use Rattle.gx_base.specs.Worklists.{item_cmp, same_item, is_before, has_item, is_least}
-use Rattle.gx_base.specs.declared.acts.Commit.{Commit as Counted}
+use Rattle.gx_base.specs.declared.acts.Commit.{Commit}
 use Rattle.gx_base.specs.SerialRuns.{counted, all_counted}
 use Rattle.gx_base.specs.SerialIterations.{body, Ended, may_commit, ready_after, with_first, serial, least_first}
 use Rattle.commit_book.specs.SerialRuns.{IsWholeRun, IsUnfinished, IsDetermined}
@@ -109,15 +109,15 @@ abbrev ready_of : Option Ended → List Item
 ready_of None = []
 ready_of (Some ended) = ended.ready
 
-length-order_of : (commits : List Commit) → length (order_of commits) ≡ length commits
+length-order_of : (commits : List WholeCommit) → length (order_of commits) ≡ length commits
 length-order_of [] = refl
 length-order_of (c ∷ cs) = ap suc (length-order_of cs)
 
 -- as many items commit as are told
-as_many : (told : List Counted) (commits : List Commit) → told ≡ all_counted commits → length (order_of commits) ≡ length told
+as_many : (told : List Commit) (commits : List WholeCommit) → told ≡ all_counted commits → length (order_of commits) ≡ length told
 as_many told commits e = length-order_of commits ∙ sym (length-map commits counted) ∙ ap length (sym e)
 
-never_unfinished : (op : Operator) (states after other : ℕ → State) (ready : List Item) (told : List Counted) → IsWholeRun op states ready told after → IsUnfinished op states ready other → ⊥
+never_unfinished : (op : Operator) (states after other : ℕ → State) (ready : List Item) (told : List Commit) → IsWholeRun op states ready told after → IsUnfinished op states ready other → ⊥
 never_unfinished op states after other ready told w s =
     let end : Ended = record { states = after; ready = []; outcomes = w.outcomes } in
     let whole : List Item = order_of w.run.commits in

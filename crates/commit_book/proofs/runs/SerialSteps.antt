@@ -2,11 +2,11 @@
 use Rattle.std.specs.Prelude.{◌≡◌, ℕ, ◌+◌, Bool, true, false, not, ◌&&◌, ◌||◌, if◌then◌else◌, Some, None, List, [], ◌∷◌, ◌++◌, length, refl}
 use Rattle.std.proofs.Common.{sym, ◌∙◌, ap, arith}
 use Rattle.std.proofs.lemmas.List.{map-append, length-map}
-use Rattle.gx_base.specs.declared.acts.Commit.{Commit as Counted}
+use Rattle.gx_base.specs.declared.acts.Commit.{Commit}
 use Rattle.gx_base.specs.declared.items.Item.{Item}
 use Rattle.gx_base.specs.States.{State}
 use Rattle.gx_base.specs.Plans.{Operator}
-use Rattle.gx_base.specs.Outcomes.{Outcome, Commit}
+use Rattle.gx_base.specs.Outcomes.{Outcome, WholeCommit}
 use Rattle.gx_base.specs.Worklists.{has_item, is_least}
 use Rattle.gx_base.specs.SerialIterations.{body, may_commit, ready_after, with_first, serial, least_first}
 use Rattle.gx_base.specs.SerialRuns.{IsSerialRun, IsSerialRunInTwo, AreNumberedBy, counted}
@@ -14,7 +14,7 @@ use Rattle.gx_base.proofs.CallerLemmas.{IsSerialRun-append}
 use Rattle.commit_book.specs.SerialRuns.{most_commits, IsLeastFirstRun, IsUnfinished}
 
 -- these commits are a run so far, with these items ready after them and these states
-pub record IsRunSoFar (op : Operator) (before : ℕ → State) (ready : List Item) (told : List Counted) (left : List Item) (now : ℕ → State) : Type 0 where
+pub record IsRunSoFar (op : Operator) (before : ℕ → State) (ready : List Item) (told : List Commit) (left : List Item) (now : ℕ → State) : Type 0 where
   pub outcomes : List Outcome
   pub run : IsLeastFirstRun op before ready told (record { states = now; ready = left; outcomes = outcomes })
 
@@ -22,7 +22,7 @@ none_by : (op : Operator) (before : ℕ → State) (ready left : List Item) → 
 unfolding serial
 none_by op before ready left e = λ i. Some (record { states = before; ready = sym e i; outcomes = [] })
 
-pub none_yet : (op : Operator) (before : ℕ → State) (ready left : List Item) (told : List Counted) → told ≡ [] → left ≡ ready → IsRunSoFar op before ready told left before
+pub none_yet : (op : Operator) (before : ℕ → State) (ready left : List Item) (told : List Commit) → told ≡ [] → left ≡ ready → IsRunSoFar op before ready told left before
 none_yet op before ready left told c e = record {
   outcomes = [];
   run = record {
@@ -47,7 +47,7 @@ may_by true has least h l = ap (λ b. b && least) h ∙ l
 may_by false has least h l = ap (λ b. b && true) h
 
 -- one more commit
-longer_by : (op : Operator) (before now after : ℕ → State) (ready left more : List Item) (commits : List Commit) (outcomes : List Outcome) (c : Commit)
+longer_by : (op : Operator) (before now after : ℕ → State) (ready left more : List Item) (commits : List WholeCommit) (outcomes : List Outcome) (c : WholeCommit)
     → IsSerialRun op before ready commits (record { states = now; ready = left; outcomes = outcomes }) → serial op now left (c.item ∷ []) ≡ Some (record { states = after; ready = more; outcomes = c.outcome ∷ [] })
     → IsSerialRun op before ready (commits ++ c ∷ []) (record { states = after; ready = more; outcomes = outcomes ++ c.outcome ∷ [] })
 longer_by op before now after ready left more commits outcomes c run turn =
@@ -60,16 +60,16 @@ longer_by op before now after ready left more commits outcomes c run turn =
     } in
     IsSerialRun-append op before ready commits (c ∷ []) _ two
 
-numbered-append : (worker iter : ℕ) (commits : List Commit) (c : Commit) → AreNumberedBy worker iter commits → c.worker ≡ worker → c.iter ≡ iter + length commits → AreNumberedBy worker iter (commits ++ c ∷ [])
+numbered-append : (worker iter : ℕ) (commits : List WholeCommit) (c : WholeCommit) → AreNumberedBy worker iter commits → c.worker ≡ worker → c.iter ≡ iter + length commits → AreNumberedBy worker iter (commits ++ c ∷ [])
 numbered-append worker iter [] c h w n = (w, omega (arith, n), tt)
 numbered-append worker iter (x ∷ xs) c h w n = (h.0, h.1, numbered-append worker (iter + 1) xs c h.2 w (omega (arith, n)))
 
 -- the least ready item commits
-pub commits_one : (op : Operator) (before now after : ℕ → State) (ready left more : List Item) (told longer : List Counted) (item : Item) (steps iter : ℕ) (o : Outcome) → IsRunSoFar op before ready told left now
+pub commits_one : (op : Operator) (before now after : ℕ → State) (ready left more : List Item) (told longer : List Commit) (item : Item) (steps iter : ℕ) (o : Outcome) → IsRunSoFar op before ready told left now
     → has_item left item ≡ true → is_least left item ≡ true → body (op.plan item) now ≡ record { outcome = o; states = after } → more ≡ ready_after left item o
     → iter ≡ length told → steps ≡ length o.steps → longer ≡ told ++ record { worker = 0; iter = iter; item = item; steps = steps } ∷ [] → IsRunSoFar op before ready longer more after
 commits_one op before now after ready left more told longer item steps iter o r h l b m n s e =
-    let c : Commit = record { worker = 0; iter = iter; item = item; outcome = o } in
+    let c : WholeCommit = record { worker = 0; iter = iter; item = item; outcome = o } in
     let first : IsSerialRun (least_first op) before ready r.run.commits (record { states = now; ready = left; outcomes = r.outcomes }) = record { in_turn = r.run.least; recorded = r.run.serial_run.recorded } in
     let least : IsSerialRun (least_first op) before ready (r.run.commits ++ c ∷ []) (record { states = after; ready = more; outcomes = r.outcomes ++ o ∷ [] }) =
     longer_by (least_first op) before now after ready left more r.run.commits r.outcomes c first (one_turn (least_first op) now after left more item o (may_by true (has_item left item) (is_least left item) h l) b m) in
@@ -91,7 +91,7 @@ unfolding has_item
 ready_by [] item h e = absurd (cc)
 ready_by (x ∷ xs) item h e = absurd (cc)
 
-pub unfinished_of : (op : Operator) (before now : ℕ → State) (ready left : List Item) (told : List Counted) (item : Item) → IsRunSoFar op before ready told left now → length told ≡ most_commits → has_item left item ≡ true → IsUnfinished op before ready now
+pub unfinished_of : (op : Operator) (before now : ℕ → State) (ready left : List Item) (told : List Commit) (item : Item) → IsRunSoFar op before ready told left now → length told ≡ most_commits → has_item left item ≡ true → IsUnfinished op before ready now
 unfinished_of op before now ready left told item r f h = record {
   told = told;
   ended = record { states = now; ready = left; outcomes = r.outcomes };

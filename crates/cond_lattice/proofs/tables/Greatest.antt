@@ -5,7 +5,7 @@ use Rattle.std.proofs.lemmas.Bool.{and_from, le-leb, lt-ltb, cases_lt}
 use Rattle.std.specs.List.{range_with_len}
 use Rattle.gx_base.specs.declared.conditions.Side.TheVariants.{Second}
 use Rattle.gx_base.specs.declared.kinds.Kind.{Kind}
-use Rattle.gx_base.specs.declared.kinds.Kind.TheVariants.{Set, Cells, Flow, Points, Domains}
+use Rattle.gx_base.specs.declared.kinds.Kind.TheVariants.{Set}
 use Rattle.gx_base.specs.Below.{names_state, AreBelow}
 use Rattle.gx_base.specs.Kinds.{kind_number}
 use Rattle.gx_base.specs.Methods.{first_method, words_of, is_method}
@@ -112,10 +112,7 @@ some_row kind rows some =
 
 some_methods : (kind : Kind) → 1 ≤ length (words_of (kind_number kind))
 some_methods Set = omega arith
-some_methods Cells = omega arith
-some_methods Flow = omega arith
-some_methods Points = omega arith
-some_methods Domains = omega arith
+some_methods kind = omega arith
 
 pub table_grade-greatest : (kind : Kind) (rows : Rows) (g : Grade) → g ≡ table_grade (kind_number kind) rows → IsGreatestClass (kind_number kind) rows g
 table_grade-greatest kind rows g e =

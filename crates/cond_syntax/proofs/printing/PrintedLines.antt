@@ -5,7 +5,7 @@ use Rattle.std.proofs.lemmas.List.{map-append}
 use Rattle.std.specs.Fmt.{decimal, signed_decimal}
 use Rattle.std.specs.List.{flat_map}
 use Rattle.gx_base.specs.declared.kinds.Kind.{Kind}
-use Rattle.gx_base.specs.declared.kinds.Kind.TheVariants.{Set, Cells, Flow, Points, Domains}
+use Rattle.gx_base.specs.declared.kinds.Kind.TheVariants.{Set}
 use Rattle.gx_base.specs.declared.conditions.Side.{Side}
 use Rattle.gx_base.specs.declared.conditions.Side.TheVariants.{First, Second}
 use Rattle.gx_base.specs.declared.conditions.Part.{Part}
@@ -136,10 +136,7 @@ rows_lines rows methods each h =
 
 type_clean : (kind : Kind) → is_clean (codes "type " ++ kind_text kind) ≡ true
 type_clean Set = refl
-type_clean Cells = refl
-type_clean Flow = refl
-type_clean Points = refl
-type_clean Domains = refl
+type_clean kind = refl
 
 -- the `type` line in front of others
 pub type_then : (kind : Kind) (rest : List ℕ) → lines_of (type_text kind ++ rest) ≡ (codes "type " ++ kind_text kind) ∷ lines_of rest

@@ -94,10 +94,7 @@ are_apart (p ∷ ps) = is_apart p ps && are_apart ps
 
 pairs-are_apart : (kind : Kind) → are_apart (pairs_of (methods_of (kind_number kind)) (methods_of (kind_number kind))) ≡ true
 pairs-are_apart Set = refl
-pairs-are_apart Cells = refl
-pairs-are_apart Flow = refl
-pairs-are_apart Points = refl
-pairs-are_apart Domains = refl
+pairs-are_apart kind = refl
 
 -- ---- rows are read one after another
 
@@ -252,17 +249,11 @@ rows_same kind rows h i j =
 
 type_is : (kind : Kind) → IsTypeLine (tokens_of (codes "type " ++ kind_text kind)) (kind_text kind)
 type_is Set = refl
-type_is Cells = refl
-type_is Flow = refl
-type_is Points = refl
-type_is Domains = refl
+type_is kind = refl
 
 kind_is : (kind : Kind) → kind_named (kind_text kind) ≡ Some kind
 kind_is Set = refl
-kind_is Cells = refl
-kind_is Flow = refl
-kind_is Points = refl
-kind_is Domains = refl
+kind_is kind = refl
 
 table_lines : (kind : Kind) (rows : Rows) → IsPrintableTable kind rows
     → lines_of (table_text kind rows) ≡ (codes "type " ++ kind_text kind) ∷ map (row_text rows) (pairs_of (methods_of (kind_number kind)) (methods_of (kind_number kind)))

@@ -4,7 +4,7 @@ use Rattle.std.proofs.Common.{sym, ◌∙◌, ap, subst, inl, inr, arith}
 use Rattle.std.proofs.lemmas.Bool.{cases_Bool, cases_eq, cases_lt}
 use Rattle.std.specs.FinMap as map
 use Rattle.gx_base.specs.declared.kinds.Kind.{Kind}
-use Rattle.gx_base.specs.declared.kinds.Kind.TheVariants.{Set, Cells, Flow, Points, Domains}
+use Rattle.gx_base.specs.declared.kinds.Kind.TheVariants.{Set}
 use Rattle.gx_base.specs.Conditions.{Condition}
 use Rattle.gx_base.specs.Kinds.{kind_number}
 use Rattle.gx_base.specs.Methods.{method_of}
@@ -33,10 +33,7 @@ kind_at number = slice_get all_kinds number
 
 kind_at_number : (kind : Kind) → kind_at (kind_number kind) ≡ Some kind
 kind_at_number Set = refl
-kind_at_number Cells = refl
-kind_at_number Flow = refl
-kind_at_number Points = refl
-kind_at_number Domains = refl
+kind_at_number kind = refl
 
 same_number : (kind other : Kind) → kind_number kind ≡ kind_number other → kind ≡ other
 same_number kind other same = let both : Some kind ≡ Some other = sym (kind_at_number kind) ∙ ap kind_at same ∙ kind_at_number other in cc

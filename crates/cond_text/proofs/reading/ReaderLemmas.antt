@@ -7,7 +7,7 @@ use Rattle.cond_syntax.specs.Written.{Written}
 use Rattle.cond_text.specs.CodeTokens.{token_seen}
 use Rattle.cond_text.specs.Comparisons.{term_begun}
 use Rattle.cond_text.specs.Drafts.{either_of}
-use Rattle.cond_text.specs.Levels.{IsLevel, LeadsLevel, LeadsConjunction, outside, or_frames}
+use Rattle.cond_text.specs.Levels.{IsLevel, IsConjunction, IsWhole, LeadsLevel, LeadsConjunction, outside, or_frames}
 use Rattle.cond_text.specs.Readers.{AreOutside, IsPlace, IsRead, IsTaken, IsEnded, IsReadWhole, unit_begun}
 use Rattle.cond_text.specs.Sources.{reading, Stops, IsStoppedAt, IsAtEnd}
 use Rattle.gx_base.specs.Kinds.{kind_number}
@@ -70,6 +70,22 @@ whole-some None frames last = refl
 pub whole-none : (or_left : Option Written) (last : Written) → whole (machine.Done last (or_frames or_left (outside None))) ≡ Some (either_of or_left last)
 whole-none (Some left) last = refl
 whole-none None last = refl
+
+-- where a parenthesis is open, nothing whole has been read
+pub ended_open : (kind : ℕ) (reader : Reader) (conjunction : Conjunction) (state : State) → IsRead kind reader state → reader.place ≡ Done conjunction → (reader.outer.items ≡ [] → ⊥) → whole state ≡ None
+ended_open kind reader conjunction state read is some =
+    let done = place_done kind read.base reader.place state conjunction read.place is in
+    let open_at = AreOutside-some kind reader.outer.items read.base some read.outer in
+    ap whole (done.3 ∙ ap (machine.Done done.0) (done.2.is ∙ ap (λ b. or_frames done.2.or_left (outside b)) open_at.1)) ∙ whole-some done.2.or_left open_at.0 done.0
+
+-- where none is, the conjunction ends the whole
+pub ended_closed : (kind : ℕ) (reader : Reader) (conjunction : Conjunction) (state : State) (draft : Draft) → IsRead kind reader state → reader.place ≡ Done conjunction → reader.outer.items ≡ []
+    → ((base : Option (List Frame)) (last : Written) (frames : List Frame) → IsConjunction kind conjunction base last frames → IsWhole kind base last frames draft) → IsEnded kind (whole state) (Ok draft)
+ended_closed kind reader conjunction state draft read is closed ends =
+    let done = place_done kind read.base reader.place state conjunction read.place is in
+    let none = AreOutside-none kind reader.outer.items read.base closed read.outer in
+    let all = ends read.base done.0 done.1 done.2 in
+    (either_of all.0 done.0, all.1, ap whole (done.3 ∙ ap (machine.Done done.0) (all.2 ∙ ap (λ b. or_frames all.0 (outside b)) none)) ∙ whole-none all.0 done.0)
 
 pub taken_some : (kind : ℕ) (state : Option State) (taken : Option Reader) (reader : Reader) → IsTaken kind state taken → taken ≡ Some reader → (next : State) × IsRead kind reader next × (state ≡ Some next)
 taken_some kind state taken reader is some = rw some at is

@@ -9,7 +9,7 @@ ghost use Rattle.cond_text.specs.declared.tables.line_faults.LineFault.TheVarian
 
 use super::line_faults::LineFault;
 use super::lines::{Said, is_skipped, said_by};
-use super::rows::Rows;
+use super::row_lines::RowLines;
 use crate::words::kind_named;
 use gx_base::Kind;
 use std::alloc::Global;
@@ -19,7 +19,7 @@ use std::alloc::Global;
 pub(super) enum Reader {
     /// No `type` line yet.
     Untyped,
-    Typed(Rows),
+    Typed(RowLines),
 }
 
 impl Reader {
@@ -57,7 +57,7 @@ impl Reader {
         }
         match self {
             Reader::Untyped => {
-                *self = Reader::Typed(Rows::new(alloc, kind));
+                *self = Reader::Typed(RowLines::new(alloc, kind));
                 Ok(())
             }
             Reader::Typed(_) => Err(LineFault::Twice),

@@ -3,7 +3,7 @@ use Rattle.std.specs.Prelude.{◌≡◌, ℕ, ℤ}
 use Rattle.std.proofs.Common.{◌∙◌, ap}
 use Rattle.std.specs.FinMap as map
 use Rattle.gx_base.specs.States.{row_cmp, rows_with, first_or_zero}
-use Rattle.number_rows.specs.Rows.{number_in, rows_onto}
+use Rattle.number_rows.specs.NumbersAsRows.{number_in, rows_onto}
 use Rattle.number_rows.proofs.CallerLemmas.{IsFree, IsFree-rows_onto, get-rows_onto-other, rows_onto-insert, rows_onto-rows_with, number-rows_onto, rows_onto-same, rows_onto-empty}
 use Rattle.flow_graph.specs.FlowRows.{Numbers, flow_rows}
 

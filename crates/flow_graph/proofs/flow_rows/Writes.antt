@@ -4,7 +4,7 @@ use Rattle.std.specs.FinMap as map
 use Rattle.gx_base.specs.declared.kinds.Kind.TheVariants.{Flow as flow}
 use Rattle.gx_base.specs.Kinds.{kind_number}
 use Rattle.gx_base.specs.States.{State, row_cmp, rows_with, number_at, with_number}
-use Rattle.number_rows.specs.Rows.{number_in}
+use Rattle.number_rows.specs.NumbersAsRows.{number_in}
 use Rattle.flow_graph.specs.declared.uses.Quantity.{Quantity}
 use Rattle.flow_graph.specs.declared.uses.Quantity.TheVariants.{Height, Excess, Flow}
 use Rattle.flow_graph.specs.Uses.{sort_of}

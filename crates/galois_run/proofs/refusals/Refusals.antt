@@ -10,7 +10,7 @@ use Rattle.galois_run.specs.declared.words.Command.{Command}
 use Rattle.galois_run.specs.declared.words.Command.TheVariants.{Flow, Classify}
 use Rattle.galois_run.specs.CommandMeanings.{meaning_by}
 use Rattle.galois_run.specs.Inputs.{Inputs, IsWithin, IsTooLong, AreWithin, HasTooLong}
-use Rattle.galois_run.specs.Meanings.{Meaning}
+use Rattle.galois_run.specs.CommandMeaning.{CommandMeaning}
 use Rattle.galois_run.specs.RunFaults.{status_of_fault, FaultsWhere, Answers}
 use Rattle.galois_run.specs.RunTurns.{ComesWhere, IsCaused, IsAnswer, writes}
 
@@ -57,14 +57,14 @@ report_by_held command held read text same within answers = at_inputs held read 
 no_cause : {cause : Type 0} (is : Status) → statuses.Ok ≢ is → ComesWhere cause is statuses.Ok → cause → ⊥
 no_cause is other comes h = elim (comes.always h) [ inl e ↦ absurd (other e) | inr up ↦ elim up [ inl e ↦ absurd (cc) | inr e ↦ absurd (cc) ] ]
 
-cut_caused : (meaning : Meaning) (inputs : Inputs) → IsCaused meaning inputs statuses.Ok → IsCaused meaning inputs statuses.WriteFault
+cut_caused : (meaning : CommandMeaning) (inputs : Inputs) → IsCaused meaning inputs statuses.Ok → IsCaused meaning inputs statuses.WriteFault
 cut_caused meaning inputs caused = record {
   too_large = λ what. never _ _ (λ e. cc) (no_cause _ (λ e. cc) (caused.too_large what));
   bad_input = λ line. never _ _ (λ e. cc) (no_cause _ (λ e. cc) (caused.bad_input line));
   spent = never _ _ (λ e. cc) (no_cause _ (λ e. cc) caused.spent);
 }
 
-written_caused : (meaning : Meaning) (inputs : Inputs) (status : Status) → writes status ≡ true → IsCaused meaning inputs statuses.Ok → IsCaused meaning inputs status
+written_caused : (meaning : CommandMeaning) (inputs : Inputs) (status : Status) → writes status ≡ true → IsCaused meaning inputs statuses.Ok → IsCaused meaning inputs status
 written_caused meaning inputs statuses.Ok w caused = caused
 written_caused meaning inputs statuses.WriteFault w caused = cut_caused meaning inputs caused
 written_caused meaning inputs statuses.Usage w caused = absurd (cc)
@@ -76,7 +76,7 @@ written_caused meaning inputs statuses.Spent w caused = absurd (cc)
 written_caused meaning inputs statuses.Kept w caused = absurd (cc)
 written_caused meaning inputs (statuses.BadTable why) w caused = absurd (cc)
 
-pub written_by_held : (meaning : Meaning) (held : Option Inputs) (status : Status) → writes status ≡ true → IfSome held (λ inputs. IsCaused meaning inputs statuses.Ok)
+pub written_by_held : (meaning : CommandMeaning) (held : Option Inputs) (status : Status) → writes status ≡ true → IfSome held (λ inputs. IsCaused meaning inputs statuses.Ok)
     → IfSome held (λ inputs. IsCaused meaning inputs status)
 written_by_held meaning None status w caused = tt
 written_by_held meaning (Some inputs) status w caused = written_caused meaning inputs status w caused

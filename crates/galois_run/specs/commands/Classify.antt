@@ -14,7 +14,7 @@ use Rattle.cond_syntax.specs.Printing.{condition_text}
 use Rattle.cond_syntax.specs.TableTexts.{all_kinds, Fault, IsTableText, IsFirstFault}
 use Rattle.line_writer.specs.Lines.{line}
 use Rattle.galois_run.specs.Inputs.{main_of, PassesFileLimit, IsFileLimit}
-use Rattle.galois_run.specs.Meanings.{Meaning}
+use Rattle.galois_run.specs.CommandMeaning.{CommandMeaning}
 
 -- the word of a class
 abbrev pub class_text : Grade → List ℕ
@@ -50,7 +50,7 @@ pub record IsFaultyTable (wanted : List Kind) (bytes : List ℕ) (line : ℕ) : 
   pub is_first : IsFirstFault wanted bytes line fault
 
 -- a table of any kind is wanted; lines are counted from 1, and nothing runs on
-abbrev pub classify_meaning : Meaning
+abbrev pub classify_meaning : CommandMeaning
 classify_meaning = record {
   reported = λ inputs report. IsClassReport all_kinds (main_of inputs) report;
   malformed = λ inputs line. IsFaultyTable all_kinds (main_of inputs) line;

@@ -11,7 +11,7 @@ use Rattle.preflow_push.specs.Discharge.{discharge_operator}
 use Rattle.preflow_push.specs.Starts.{start_states, start_ready}
 use Rattle.preflow_push.specs.FlowReports.{flow_report}
 use Rattle.galois_run.specs.Inputs.{main_of, PassesFileLimit, IsFileLimit}
-use Rattle.galois_run.specs.Meanings.{Meaning}
+use Rattle.galois_run.specs.CommandMeaning.{CommandMeaning}
 
 -- the network's iteration was run serially to the end, the least ready item first, and this is the report
 pub record IsReportOf (net : Net) (report : List ℕ) : Type 0 where
@@ -37,7 +37,7 @@ pub record IsUnfinishedFlow (bytes : List ℕ) : Type 0 where
 abbrev pub IsNoFlow : List ℕ → ℕ → Type 0
 IsNoFlow bytes line = (line ≡ 0) × ((net : Net) → IsFlowFile bytes net → ⊥)
 
-abbrev pub flow_meaning : Meaning
+abbrev pub flow_meaning : CommandMeaning
 flow_meaning = record {
   reported = λ inputs report. IsFlowReport (main_of inputs) report;
   malformed = λ inputs line. IsNoFlow (main_of inputs) line;

@@ -72,7 +72,7 @@ fn put_row(
 }
 
 /// Puts the lines of the rows with this method first.
-#[tactic(auto, using(gx_base::proofs::CallerLemmas::methods_end, gx_base::proofs::CallerLemmas::place_below, cond_text::proofs::CallerLemmas::all_pieces))]
+#[tactic(auto, using(gx_base::proofs::CallerLemmas::methods_end, gx_base::proofs::CallerLemmas::place_below, cond_print::proofs::CallerLemmas::all_pieces))]
 fn put_first(
     alloc: Global,
     text: &mut Vec<u8>,
@@ -91,7 +91,7 @@ fn put_first(
 }
 
 /// Tells each row of a table: its methods, its class and its condition.
-#[tactic(auto, using(gx_base::proofs::CallerLemmas::methods_end, gx_base::proofs::CallerLemmas::place_below, cond_text::proofs::CallerLemmas::all_pieces))]
+#[tactic(auto, using(gx_base::proofs::CallerLemmas::methods_end, gx_base::proofs::CallerLemmas::place_below, cond_print::proofs::CallerLemmas::all_pieces))]
 pub fn classify(alloc: Global, kind: Kind, table: &Table) -> Result<Vec<u8>, NoMemory>
     ensures { IfOk result (λ text. text.items ≡ classify_text kind (row_of table.now)) }
 {

@@ -9,19 +9,19 @@ use Rattle.gx_base.specs.TableRows.{RowMap}
 use Rattle.gx_base.specs.States.{State}
 use Rattle.gx_base.specs.Steps.{next_state, reply_to, inverse, IsState, IsCall}
 use Rattle.gx_base.specs.Tables.{Rows}
-use Rattle.gx_base.proofs.CallerLemmas.{undoes}
+use Rattle.gx_base.proofs.CallerLemmas.{undoes, start_of-append}
+use Rattle.gx_base.specs.Replays as replays
 use Rattle.gate_core.specs.declared.refusals.Told.{Told}
-use Rattle.gate_core.specs.Entries.{made_of}
+use Rattle.gate_core.specs.Entries.{made_of, mades_of}
 use Rattle.gate_core.specs.Replays.{Legal, start_of, AllSawRight, LeadTo}
 use Rattle.gate_core.specs.Views.{GateView, IsLawfulGate, rows_of, live_start, asked_entry, in_way, admit}
 use Rattle.gate_core.specs.CallAnswers.{AllRoomed, IsGate, IsAdmitted, TellsOf}
 use Rattle.gate_core.proofs.lists.EntryLists.{each_append, each_same}
-use Rattle.gate_core.proofs.replays.EntryReplays.{legal_join, calls_append}
+use Rattle.gate_core.proofs.replays.EntryReplays.{legal_join, calls_append, mades_of-append}
 use Rattle.gate_core.proofs.lawful.KeptLawful.{Kept, admit_keeps, saw_append, live_stands, state_stands}
 
-start_of-append : (t : State) (es : List Entry) (e : Entry) → start_of t (es ++ e ∷ []) ≡ start_of (inverse t e.call e.reply) es
-start_of-append t [] e = refl
-start_of-append t (x ∷ es) e = ap (λ u. inverse u x.call x.reply) (start_of-append t es e)
+start_with : (t : State) (es : List Entry) (e : Entry) → start_of t (es ++ e ∷ []) ≡ start_of (inverse t e.call e.reply) es
+start_with t es e = ap (replays.start_of t) (mades_of-append es (e ∷ [])) ∙ start_of-append t (mades_of es) (made_of e)
 
 -- the state, the entry and the live entries after the object did a call, where each is known by an equation
 pub record Asks (g : GateView) (worker iter : ℕ) (item : Item) (call : Call) (e : Entry) (s : State) (live : List Entry) : Type 0 where
@@ -40,7 +40,7 @@ asks g worker iter item call e s0 s live p q r l = record {
 -- the state before the live entries is seen after the call too
 asked_start : (g : GateView) (worker iter : ℕ) (item : Item) (call : Call) → IsLawfulGate g → IsCall call → start_of (next_state g.state call) (g.live ++ asked_entry worker iter item call g.state ∷ []) ≡ live_start g
 asked_start g worker iter item call h c =
-    start_of-append (next_state g.state call) g.live (asked_entry worker iter item call g.state) ∙ ap (λ u. start_of u g.live) (undoes g.state call (state_stands g h).is_state c)
+    start_with (next_state g.state call) g.live (asked_entry worker iter item call g.state) ∙ ap (λ u. start_of u g.live) (undoes g.state call (state_stands g h).is_state c)
 
 pub start_seen : (g : GateView) (worker iter : ℕ) (item : Item) (call : Call) (e : Entry) (s : State) (live : List Entry) → IsLawfulGate g → IsCall call → Asks g worker iter item call e s live → start_of s (live ++ e ∷ []) ≡ live_start g
 start_seen g worker iter item call e s live h c a = (λ i. start_of (a.next i) (a.entries i ++ a.entry i ∷ [])) ∙ asked_start g worker iter item call h c

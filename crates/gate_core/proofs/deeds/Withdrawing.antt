@@ -8,7 +8,7 @@ use Rattle.gx_base.specs.TableRows.{RowMap}
 use Rattle.gx_base.specs.States.{State}
 use Rattle.gx_base.specs.Steps.{inverse}
 use Rattle.gate_core.specs.Entries.{made_of, is_of, entries_of, others_than, has_entry, last_of, without_last, done_under}
-use Rattle.gate_core.specs.Places.{IsLastPlace}
+use Rattle.gate_core.specs.LastPlaces.{IsLastPlace}
 use Rattle.gate_core.specs.Views.{GateView, undo_entry, undo_last, release}
 use Rattle.gate_core.specs.CallAnswers.{AllRoomed, IsGate, call_of}
 use Rattle.gate_core.proofs.lists.EntryLists.{neither, each_at, each_same, each_filter, each_without}

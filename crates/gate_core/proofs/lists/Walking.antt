@@ -6,7 +6,7 @@ use Rattle.std.proofs.lemmas.List.Elements.{filter-append}
 use Rattle.std.proofs.Math.Seq.{drop-cons}
 use Rattle.gx_base.specs.declared.acts.Entry.{Entry}
 use Rattle.gate_core.specs.Entries.{is_of, entries_of, others_than, has_entry, last_of, without_last, done_under, LosesLast}
-use Rattle.gate_core.specs.Places.{IsLastPlace}
+use Rattle.gate_core.specs.LastPlaces.{IsLastPlace}
 use Rattle.gate_core.proofs.lists.EntryLists.{last_split, without_split, none_equal, has_others}
 
 pub get_at : (es : List Entry) (i : ℕ) (d : Entry) → i < length es → slice_get es i ≡ Some (get_or es i d)

@@ -4,16 +4,13 @@ use Rattle.std.specs.List.{range_with_len}
 use Rattle.std.proofs.Common.{sym, ap, ◌∙◌, inl, inr, arith, subst}
 use Rattle.std.proofs.lemmas.Bool.{and_parts, leb-true, ltb-true, ltb-false, cases_lt}
 use Rattle.gx_base.specs.declared.kinds.Kind.{Kind}
-use Rattle.gx_base.specs.declared.kinds.Kind.TheVariants.{Set, Cells, Flow, Points, Domains}
+use Rattle.gx_base.specs.declared.kinds.Kind.TheVariants.{Set}
 use Rattle.gx_base.specs.Kinds.{kind_number}
 use Rattle.gx_base.specs.Methods.{most_methods, first_method, words_of, methods_of, is_method, method_at}
 
 pub few_methods : (kind : Kind) → length (words_of (kind_number kind)) ≤ most_methods
 few_methods Set = omega arith
-few_methods Cells = omega arith
-few_methods Flow = omega arith
-few_methods Points = omega arith
-few_methods Domains = omega arith
+few_methods kind = omega arith
 
 -- the method at a place stands there
 pub record IsAt (kind place method : ℕ) : Type 0 where

@@ -4,7 +4,7 @@ use Rattle.gx_base.specs.RegisterDeeds.{Reads, Adds, Sets, Nothing, On}
 use Rattle.gx_base.specs.ObjectKinds.{is_among}
 use Rattle.gx_base.specs.CellsKind.{cells_first, cells_use, cells_kind}
 use Rattle.gx_base.proofs.object_kinds.MeaningLaws.{LawsOf, differs}
-use Rattle.gx_base.proofs.object_kinds.RegisterLaws.{kind-next_by, state_by, undone_by, no_use}
+use Rattle.gx_base.proofs.object_kinds.RegisterLaws.{register_laws}
 
 pub cells_use-foreign : (m : ℕ) → is_among cells_kind.first cells_kind.words m ≡ false → cells_use m ≡ Nothing
 cells_use-foreign m h = λ i.
@@ -12,10 +12,4 @@ cells_use-foreign m h = λ i.
     else if differs cells_kind m (cells_first + 2) refl h i then On 0 Sets else Nothing
 
 pub cells_laws : LawsOf cells_kind
-cells_laws = record {
-  keeps_kind = λ s c. kind-next_by (cells_use c.method) s c;
-  keeps_state = λ s c h f. state_by (cells_use c.method) s c h f;
-  undone = λ s c h f. undone_by (cells_use c.method) s c h f;
-  foreign = λ s c h. no_use cells_use s c (cells_use-foreign c.method h);
-  unseen = λ e s x. refl;
-}
+cells_laws = register_laws cells_first cells_kind.words cells_use cells_use-foreign

@@ -1,22 +1,16 @@
 -- Laws of the kind `flow`.
-use Rattle.std.specs.Prelude.{◌≡◌, ℕ, ◌+◌, false, if◌then◌else◌, refl}
+use Rattle.std.specs.Prelude.{◌≡◌, ℕ, false, if◌then◌else◌, refl}
 use Rattle.gx_base.specs.RegisterDeeds.{Reads, Adds, Sets, Nothing, On}
 use Rattle.gx_base.specs.ObjectKinds.{is_among}
-use Rattle.gx_base.specs.FlowKind.{flow_first, flow_use, flow_kind}
+use Rattle.gx_base.specs.FlowKind.{flow_first, height_method, relabel_method, excess_method, gain_method, flow_method, send_method, height_sort, excess_sort, flow_sort, flow_use, flow_kind}
 use Rattle.gx_base.proofs.object_kinds.MeaningLaws.{LawsOf, differs}
-use Rattle.gx_base.proofs.object_kinds.RegisterLaws.{kind-next_by, state_by, undone_by, no_use}
+use Rattle.gx_base.proofs.object_kinds.RegisterLaws.{register_laws}
 
 pub flow_use-foreign : (m : ℕ) → is_among flow_kind.first flow_kind.words m ≡ false → flow_use m ≡ Nothing
 flow_use-foreign m h = λ i.
-    if differs flow_kind m flow_first refl h i then On 0 Reads else if differs flow_kind m (flow_first + 1) refl h i then On 0 Sets
-    else if differs flow_kind m (flow_first + 2) refl h i then On 1 Reads else if differs flow_kind m (flow_first + 3) refl h i then On 1 Adds
-    else if differs flow_kind m (flow_first + 4) refl h i then On 2 Reads else if differs flow_kind m (flow_first + 5) refl h i then On 2 Adds else Nothing
+    if differs flow_kind m height_method refl h i then On height_sort Reads else if differs flow_kind m relabel_method refl h i then On height_sort Sets
+    else if differs flow_kind m excess_method refl h i then On excess_sort Reads else if differs flow_kind m gain_method refl h i then On excess_sort Adds
+    else if differs flow_kind m flow_method refl h i then On flow_sort Reads else if differs flow_kind m send_method refl h i then On flow_sort Adds else Nothing
 
 pub flow_laws : LawsOf flow_kind
-flow_laws = record {
-  keeps_kind = λ s c. kind-next_by (flow_use c.method) s c;
-  keeps_state = λ s c h f. state_by (flow_use c.method) s c h f;
-  undone = λ s c h f. undone_by (flow_use c.method) s c h f;
-  foreign = λ s c h. no_use flow_use s c (flow_use-foreign c.method h);
-  unseen = λ e s x. refl;
-}
+flow_laws = register_laws flow_first flow_kind.words flow_use flow_use-foreign

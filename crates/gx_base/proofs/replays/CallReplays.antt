@@ -19,6 +19,11 @@ start_of-Legal s t (made ∷ mades) h c l =
     ap (λ u. inverse u made.call made.reply) (start_of-Legal (next_state s made.call) t mades (next_state-IsState s made.call h c.0) c.1 l.1)
     ∙ ap (inverse (next_state s made.call) made.call) (sym l.0) ∙ undoes s made.call h c.0
 
+-- the call that was last is taken back first
+pub start_of-append : (t : State) (mades : List Made) (made : Made) → start_of t (mades ++ made ∷ []) ≡ start_of (inverse t made.call made.reply) mades
+start_of-append t [] made = refl
+start_of-append t (x ∷ mades) made = ap (λ u. inverse u x.call x.reply) (start_of-append t mades made)
+
 -- a replay splits at each prefix
 pub Legal-split : (s t : State) (xs ys : List Made) → Legal s (xs ++ ys) t → Legal s xs (after s xs) × Legal (after s xs) ys t
 Legal-split s t [] ys l = (refl, l)

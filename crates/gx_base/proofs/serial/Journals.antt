@@ -5,7 +5,7 @@ use Rattle.gx_base.specs.declared.items.Item.{Item}
 use Rattle.gx_base.specs.States.{State}
 use Rattle.gx_base.specs.Plans.{Operator}
 use Rattle.gx_base.specs.Replays.{Replays}
-use Rattle.gx_base.specs.Outcomes.{Outcome, Commit, order_of, outcomes_of, journal}
+use Rattle.gx_base.specs.Outcomes.{Outcome, WholeCommit, order_of, outcomes_of, journal}
 use Rattle.gx_base.specs.SerialIterations.{Ran, body, Ended, may_commit, ready_after, with_first, serial}
 use Rattle.gx_base.specs.SerialRuns.{IsSerialRun, AreInTurn, IsRunOf, AreRunsOf}
 use Rattle.gx_base.proofs.replays.RoomReplays.{Replays-split, Replays-append}
@@ -15,7 +15,7 @@ use Rattle.gx_base.proofs.serial.Prefixes.{FirstTurn, first_turn, some_same}
 
 -- ---- the journal replays
 
-pub IsSerialRun-Replays : (op : Operator) (states : ℕ → State) (ready : List Item) (commits : List Commit) (ended : Ended) → IsSerialRun op states ready commits ended → Replays states (journal commits) ended.states
+pub IsSerialRun-Replays : (op : Operator) (states : ℕ → State) (ready : List Item) (commits : List WholeCommit) (ended : Ended) → IsSerialRun op states ready commits ended → Replays states (journal commits) ended.states
 unfolding serial
 IsSerialRun-Replays op states ready [] ended run = ap (λ (x : Ended). x.states) (some_same run.in_turn)
 IsSerialRun-Replays op states ready (c ∷ cs) ended run =
@@ -42,7 +42,7 @@ unfolding serial
 turn_of op states ready item order ran rest b m s =
     (λ i. if m i then with_first (b i).outcome (serial op (b i).states (ready_after ready item (b i).outcome) order) else None) ∙ ap (with_first ran.outcome) s
 
-in_turn_by : (op : Operator) (states ends : ℕ → State) (ready left : List Item) (commits : List Commit) → AreInTurn op.ordered ready commits left → AreRunsOf op commits → Replays states (journal commits) ends
+in_turn_by : (op : Operator) (states ends : ℕ → State) (ready left : List Item) (commits : List WholeCommit) → AreInTurn op.ordered ready commits left → AreRunsOf op commits → Replays states (journal commits) ends
     → serial op states ready (order_of commits) ≡ Some (record { states = ends; ready = left; outcomes = outcomes_of commits })
 unfolding serial
 in_turn_by op states ends ready left [] t h r = λ i. Some (record { states = r i; ready = t i; outcomes = [] })
@@ -52,6 +52,6 @@ in_turn_by op states ends ready left (c ∷ cs) t h r =
     (in_turn_by op s.0 ends (ready_after ready c.item c.outcome) left cs t.1 h.1 s.2)
 
 -- commits in turn, each of a run of its body, whose journal replays, are a serial run
-pub IsSerialRun-runs : (op : Operator) (states ends : ℕ → State) (ready left : List Item) (commits : List Commit) → AreInTurn op.ordered ready commits left → AreRunsOf op commits → Replays states (journal commits) ends
+pub IsSerialRun-runs : (op : Operator) (states ends : ℕ → State) (ready left : List Item) (commits : List WholeCommit) → AreInTurn op.ordered ready commits left → AreRunsOf op commits → Replays states (journal commits) ends
     → IsSerialRun op states ready commits (record { states = ends; ready = left; outcomes = outcomes_of commits })
 IsSerialRun-runs op states ends ready left commits t h r = record { in_turn = in_turn_by op states ends ready left commits t h r; recorded = refl }

@@ -4,7 +4,7 @@ use Rattle.std.proofs.Common.{sym, ◌∙◌, ap}
 use Rattle.gx_base.specs.declared.items.Item.{Item}
 use Rattle.gx_base.specs.States.{State}
 use Rattle.gx_base.specs.Plans.{Operator}
-use Rattle.gx_base.specs.Outcomes.{Commit, order_of, outcomes_of}
+use Rattle.gx_base.specs.Outcomes.{WholeCommit, order_of, outcomes_of}
 use Rattle.gx_base.specs.Worklists.{has_item, is_least}
 use Rattle.gx_base.specs.SerialIterations.{body, Ended, ready_after, serial, least_first}
 use Rattle.gx_base.specs.SerialRuns.{IsSerialRun, IsLeastFirst}
@@ -26,5 +26,5 @@ serial-least_first op states ready (x ∷ xs) ended e =
     (serial-least_first op (body (op.plan x) states).states (ready_after ready x (body (op.plan x) states).outcome) xs f.rest f.goes_on)
     ∙ ap Some (sym f.end)
 
-pub IsSerialRun-least_first : (op : Operator) (states : ℕ → State) (ready : List Item) (commits : List Commit) (ended : Ended) → IsLeastFirst op states ready commits ended → outcomes_of commits ≡ ended.outcomes → IsSerialRun op states ready commits ended
+pub IsSerialRun-least_first : (op : Operator) (states : ℕ → State) (ready : List Item) (commits : List WholeCommit) (ended : Ended) → IsLeastFirst op states ready commits ended → outcomes_of commits ≡ ended.outcomes → IsSerialRun op states ready commits ended
 IsSerialRun-least_first op states ready commits ended l o = record { in_turn = serial-least_first op states ready (order_of commits) ended l; recorded = o }

@@ -4,7 +4,7 @@ use Rattle.std.proofs.Common.{sym, ◌∙◌, ap, arith}
 use Rattle.gx_base.specs.declared.items.Item.{Item}
 use Rattle.gx_base.specs.States.{State}
 use Rattle.gx_base.specs.Plans.{Operator}
-use Rattle.gx_base.specs.Outcomes.{Outcome, Commit, order_of, outcomes_of}
+use Rattle.gx_base.specs.Outcomes.{Outcome, WholeCommit, order_of, outcomes_of}
 use Rattle.gx_base.specs.SerialIterations.{body, Ended, may_commit, ready_after, with_first, with_before, serial, then_serial}
 use Rattle.gx_base.specs.SerialRuns.{IsSerialRun, IsSerialRunInTwo}
 
@@ -65,15 +65,15 @@ as_many op states ready (x ∷ xs) ended e =
 
 -- ---- commits
 
-pub order_of-append : (xs ys : List Commit) → order_of (xs ++ ys) ≡ order_of xs ++ order_of ys
+pub order_of-append : (xs ys : List WholeCommit) → order_of (xs ++ ys) ≡ order_of xs ++ order_of ys
 order_of-append [] ys = refl
 order_of-append (x ∷ xs) ys = ap (λ items. x.item ∷ items) (order_of-append xs ys)
 
-pub outcomes_of-append : (xs ys : List Commit) → outcomes_of (xs ++ ys) ≡ outcomes_of xs ++ outcomes_of ys
+pub outcomes_of-append : (xs ys : List WholeCommit) → outcomes_of (xs ++ ys) ≡ outcomes_of xs ++ outcomes_of ys
 outcomes_of-append [] ys = refl
 outcomes_of-append (x ∷ xs) ys = ap (λ outcomes. x.outcome ∷ outcomes) (outcomes_of-append xs ys)
 
-length-outcomes_of : (commits : List Commit) → length (outcomes_of commits) ≡ length (order_of commits)
+length-outcomes_of : (commits : List WholeCommit) → length (outcomes_of commits) ≡ length (order_of commits)
 length-outcomes_of [] = refl
 length-outcomes_of (c ∷ cs) = ap suc (length-outcomes_of cs)
 
@@ -87,7 +87,7 @@ same_fronts (x ∷ xs) (y ∷ ys) ps qs n e =
     let both : (xs ≡ ys) × (ps ≡ qs) = same_fronts xs ys ps qs (omega arith) rest in
     ((λ i. first i ∷ both.0 i), both.1)
 
-second_by : (op : Operator) (states : ℕ → State) (ready : List Item) (xs ys : List Commit) (ended between : Ended) (u : Option Ended) → serial op states ready (order_of xs) ≡ Some between
+second_by : (op : Operator) (states : ℕ → State) (ready : List Item) (xs ys : List WholeCommit) (ended between : Ended) (u : Option Ended) → serial op states ready (order_of xs) ≡ Some between
     → serial op between.states between.ready (order_of ys) ≡ u → with_before between.outcomes u ≡ Some ended → outcomes_of (xs ++ ys) ≡ ended.outcomes → IsSerialRunInTwo op states ready xs ys ended
 second_by op states ready xs ys ended between None s k e o = absurd (cc)
 second_by op states ready xs ys ended between (Some last) s k e o =
@@ -103,18 +103,18 @@ second_by op states ready xs ys ended between (Some last) s k e o =
       end = sym end;
     }
 
-first_by : (op : Operator) (states : ℕ → State) (ready : List Item) (xs ys : List Commit) (ended : Ended) (t : Option Ended) → serial op states ready (order_of xs) ≡ t
+first_by : (op : Operator) (states : ℕ → State) (ready : List Item) (xs ys : List WholeCommit) (ended : Ended) (t : Option Ended) → serial op states ready (order_of xs) ≡ t
     → then_serial op (order_of ys) t ≡ Some ended → outcomes_of (xs ++ ys) ≡ ended.outcomes → IsSerialRunInTwo op states ready xs ys ended
 first_by op states ready xs ys ended None s e o = absurd (cc)
 first_by op states ready xs ys ended (Some between) s e o = second_by op states ready xs ys ended between _ s refl e o
 
 -- a serial run splits at each prefix of its commits
-pub IsSerialRun-split : (op : Operator) (states : ℕ → State) (ready : List Item) (xs ys : List Commit) (ended : Ended) → IsSerialRun op states ready (xs ++ ys) ended → IsSerialRunInTwo op states ready xs ys ended
+pub IsSerialRun-split : (op : Operator) (states : ℕ → State) (ready : List Item) (xs ys : List WholeCommit) (ended : Ended) → IsSerialRun op states ready (xs ++ ys) ended → IsSerialRunInTwo op states ready xs ys ended
 IsSerialRun-split op states ready xs ys ended run =
     first_by op states ready xs ys ended _ refl (sym (ap (serial op states ready) (order_of-append xs ys) ∙ serial-append op states ready (order_of xs) (order_of ys)) ∙ run.in_turn) run.recorded
 
 -- and two of them, of which the second begins where the first ends, are one
-pub IsSerialRun-append : (op : Operator) (states : ℕ → State) (ready : List Item) (xs ys : List Commit) (ended : Ended) → IsSerialRunInTwo op states ready xs ys ended → IsSerialRun op states ready (xs ++ ys) ended
+pub IsSerialRun-append : (op : Operator) (states : ℕ → State) (ready : List Item) (xs ys : List WholeCommit) (ended : Ended) → IsSerialRunInTwo op states ready xs ys ended → IsSerialRun op states ready (xs ++ ys) ended
 IsSerialRun-append op states ready xs ys ended h = record {
   in_turn =
       ap (serial op states ready) (order_of-append xs ys)

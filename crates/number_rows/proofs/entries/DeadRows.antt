@@ -11,7 +11,7 @@ use Rattle.std.proofs.lemmas.List.Sums.{sum_by-cons}
 use Rattle.std.proofs.lemmas.Map.Entries.{option_filter, lookup-filter-values}
 use Rattle.indexmap.specs.IndexMap.{insert_entry}
 use Rattle.number_rows.specs.Entries.{FitAll, is_zero, dead_in, one_if, found_zero}
-use Rattle.number_rows.specs.Rows.{number_in}
+use Rattle.number_rows.specs.NumbersAsRows.{number_in}
 use Rattle.number_rows.proofs.entries.Lookups.{get-entries}
 
 dead_cons : (e : ℤ × ℤ) (es : List (ℤ × ℤ)) → dead_in (e ∷ es) ≡ one_if (is_zero e.1) + dead_in es

@@ -7,7 +7,7 @@ use Rattle.std.specs.Cmp.{int_cmp_total, int_eq_equiv}
 use Rattle.std.specs.Map.{lookup}
 use Rattle.std.specs.FinMap as map
 use Rattle.number_rows.specs.Entries.{FitAll}
-use Rattle.number_rows.specs.Rows.{number_in}
+use Rattle.number_rows.specs.NumbersAsRows.{number_in}
 use Rattle.number_rows.specs.declared.rows.NumberRows.{NumberRows}
 use Rattle.number_rows.specs.NumberRows.{rows_of}
 
@@ -20,11 +20,11 @@ pub get-entries : (es : List (ℤ × ℤ)) (q : ℤ) → map.get (map.from_entri
 get-entries es q = map.get-from_entries int_cmp_total es q ∙ find-lookup es q
 
 -- where the key and the number were read as bits
-pub found : (es : List (ℤ × ℤ)) (k kk x y : ℤ) → kk ≡ k → y ≡ x → Some x ≡ lookup (int_eq kk) es → y ≡ number_in (map.from_entries es) k
-found es k kk x y e h l = h ∙ ap (λ o. unwrap_or o (pos 0)) (l ∙ ap (λ z. lookup (int_eq z) es) e ∙ sym (get-entries es k))
+pub found : (es : List (ℤ × ℤ)) (k kk x y : ℤ) → kk ≡ k → y ≡ x → Some x ≡ lookup (int_eq kk) es → Some y ≡ map.get (map.from_entries {R = int_cmp} es) k
+found es k kk x y e h l = ap Some h ∙ l ∙ ap (λ z. lookup (int_eq z) es) e ∙ sym (get-entries es k)
 
-pub not_found : (es : List (ℤ × ℤ)) (k kk : ℤ) → kk ≡ k → None ≡ lookup (int_eq kk) es → pos 0 ≡ number_in (map.from_entries es) k
-not_found es k kk e l = ap (λ o. unwrap_or o (pos 0)) (l ∙ ap (λ z. lookup (int_eq z) es) e ∙ sym (get-entries es k))
+pub not_found : (es : List (ℤ × ℤ)) (k kk : ℤ) → kk ≡ k → None ≡ lookup (int_eq kk) es → None ≡ map.get (map.from_entries {R = int_cmp} es) k
+not_found es k kk e l = l ∙ ap (λ z. lookup (int_eq z) es) e ∙ sym (get-entries es k)
 
 pub there : (es : List (ℤ × ℤ)) (k kk : ℤ) → kk ≡ k → is_some (lookup (int_eq kk) es) ≡ map.contains_key (map.from_entries {R = int_cmp} es) k
 there es k kk e = ap is_some (ap (λ z. lookup (int_eq z) es) e ∙ sym (get-entries es k))

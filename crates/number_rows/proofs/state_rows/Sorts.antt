@@ -7,7 +7,7 @@ use Rattle.std.specs.Cmp.{int_cmp_total, unsigned_Decides, signed_Decides}
 use Rattle.std.specs.FinMap as map
 use Rattle.gx_base.specs.States.{row_cmp, rows_with, first_or_zero, IsNumberRow}
 use Rattle.gx_base.proofs.CallerLemmas.{row_cmp_total, row_cmp-IsAntisymmetric, get-rows_with, same_row, same_row-is, same_row-sort, row_for, row_for-IsNumberRow}
-use Rattle.number_rows.specs.Rows.{number_in, entries_onto, rows_onto}
+use Rattle.number_rows.specs.NumbersAsRows.{number_in, entries_onto, rows_onto}
 
 -- what stands where a number was found, or not
 abbrev pub row_or : Option (List ℤ) → Option ℤ → Option (List ℤ)

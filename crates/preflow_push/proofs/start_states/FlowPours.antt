@@ -6,6 +6,7 @@ use Rattle.std.specs.List.{list_any}
 use Rattle.std.specs.Ordering.{int_eq}
 use Rattle.std.specs.Cmp.{signed_Decides}
 use Rattle.gx_base.specs.States.{State}
+use Rattle.gx_base.specs.FlowKind.{excess_sort}
 use Rattle.preflow_push.specs.declared.network.Arc.{Arc}
 use Rattle.preflow_push.specs.Networks.{Net}
 use Rattle.preflow_push.specs.FlowStates.{excess_in, flow_in}
@@ -76,7 +77,7 @@ entered_by net q true e active = refl
 entered_by net q false e active =
     let zero_excess : excess_in (start_states net) q ≡ pos 0 =
     excess_in-poured net.source 1 net.arcs (with_height net.source net.nodes empty_rooms) q (not_terminal (int_eq q net.source) (int_eq q net.sink) (int_lt (pos 0) (excess_in (start_states net) q)) active) e
-    ∙ nothing_at_first net.source net.nodes q 1 refl in
+    ∙ nothing_at_first net.source net.nodes q excess_sort refl in
     let positive : int_lt (pos 0) (excess_in (start_states net) q) ≡ true = has_more (not (is_terminal (terminals net) q)) (int_lt (pos 0) (excess_in (start_states net) q)) active in
     sym (ap (int_lt (pos 0)) zero_excess) ∙ positive
 

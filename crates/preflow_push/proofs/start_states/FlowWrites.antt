@@ -7,9 +7,11 @@ use Rattle.std.specs.Int.{w64, cast_signed, cast_unsigned, int_wrapping_add}
 use Rattle.std.specs.Ordering.{int_eq}
 use Rattle.std.specs.FinMap as finite
 use Rattle.gx_base.specs.declared.calls.Call.{Call}
+use Rattle.gx_base.specs.declared.kinds.Kind.TheVariants.{Flow}
+use Rattle.gx_base.specs.Kinds.{kind_number}
 use Rattle.gx_base.specs.States.{State, row_cmp, first_or_zero, number_at, with_number}
 use Rattle.gx_base.specs.Steps.{next_state, meaning_of}
-use Rattle.gx_base.specs.FlowKind.{flow_use}
+use Rattle.gx_base.specs.FlowKind.{height_sort, excess_sort, flow_sort, flow_use}
 use Rattle.gx_base.specs.RegisterDeeds.{next_by}
 use Rattle.gx_base.proofs.CallerLemmas.{below_bits, same_row, same_row-sort, number_at-other}
 use Rattle.gx_base.specs.Replays.{in_rooms, put}
@@ -33,12 +35,12 @@ made_in shards room place d new call made e f lt is =
     ∙ ap (put (rooms_of shards) room) (is ∙ ap (λ (s : State). next_state s call) (sym (in_rooms-object state_of shards room d lt)))
     ∙ (λ i. put (rooms_of shards) (e i) (next_state (rooms_of shards (e i)) (f i)))
 
-kind_in : (shards : List FlowShard) (room : ℕ) → room < length shards → (rooms_of shards room).kind ≡ 2
+kind_in : (shards : List FlowShard) (room : ℕ) → room < length shards → (rooms_of shards room).kind ≡ kind_number Flow
 kind_in [] room lt = absurd (omega arith)
 kind_in (x ∷ xs) zero lt = refl
 kind_in (x ∷ xs) (suc n) lt = kind_in xs n (omega arith)
 
-next_on : (s : State) (c : Call) → s.kind ≡ 2 → next_state s c ≡ next_by (flow_use c.method) s c
+next_on : (s : State) (c : Call) → s.kind ≡ kind_number Flow → next_state s c ≡ next_by (flow_use c.method) s c
 unfolding next_state
 next_on s c e = ap (λ (k : ℕ). (meaning_of k).next s c) e
 
@@ -64,8 +66,8 @@ pub sends : (shards : List FlowShard) (n m x y : ℤ) → length shards ≡ room
     → put (rooms_of shards) (room_of n) (next_state (rooms_of shards (room_of n)) (call_of send_method n x)) ≡ with_flow m y (rooms_of shards)
 sends shards n m x y len e f fits none =
     next_in shards send_method n x len
-    ∙ (λ i. set_in 2 (e i) (int_wrapping_add w64 (flow_in (rooms_of shards) (e i)) (f i)) (rooms_of shards))
-    ∙ ap (λ (z : ℤ). set_in 2 m z (rooms_of shards)) (ap (λ (z : ℤ). int_wrapping_add w64 z y) none ∙ zero_add y fits)
+    ∙ (λ i. set_in flow_sort (e i) (int_wrapping_add w64 (flow_in (rooms_of shards) (e i)) (f i)) (rooms_of shards))
+    ∙ ap (λ (z : ℤ). set_in flow_sort m z (rooms_of shards)) (ap (λ (z : ℤ). int_wrapping_add w64 z y) none ∙ zero_add y fits)
 
 -- a full arc
 pub fills : (s a b c : ℕ → State) (arc : Arc) (number n x f y t z : ℤ) → a ≡ with_flow n x s → b ≡ with_gain f y a → c ≡ with_gain t z b
@@ -86,20 +88,20 @@ pub set_in-other : (sort number_sort : ℕ) (number q x : ℤ) (s : ℕ → Stat
     → number_at (set_in number_sort number x s (room_of q)) (sort, q) ≡ number_at (s (room_of q)) (sort, q)
 set_in-other sort number_sort number q x s apart = set_by sort number_sort number q x s (nat_eq (room_of number) (room_of q)) refl apart
 
-gain-other : (sort : ℕ) (node q x : ℤ) (s : ℕ → State) → same_row (sort, q) (1, node) ≡ false → number_at (with_gain node x s (room_of q)) (sort, q) ≡ number_at (s (room_of q)) (sort, q)
-gain-other sort node q x s apart = set_in-other sort 1 node q (int_wrapping_add w64 (excess_in s node) x) s apart
+gain-other : (sort : ℕ) (node q x : ℤ) (s : ℕ → State) → same_row (sort, q) (excess_sort, node) ≡ false → number_at (with_gain node x s (room_of q)) (sort, q) ≡ number_at (s (room_of q)) (sort, q)
+gain-other sort node q x s apart = set_in-other sort excess_sort node q (int_wrapping_add w64 (excess_in s node) x) s apart
 
 pub flow_in-filled : (s : ℕ → State) (arc : Arc) (number q : ℤ) → int_eq q number ≡ false → flow_in (filled number arc s) q ≡ flow_in s q
 flow_in-filled s arc number q apart =
-    gain-other 2 arc.to q arc.cap (with_gain arc.from (minus arc.cap) (with_flow number arc.cap s)) refl
-    ∙ gain-other 2 arc.from q (minus arc.cap) (with_flow number arc.cap s) refl
-    ∙ set_in-other 2 2 number q arc.cap s (same_row-sort 2 q number ∙ apart)
+    gain-other flow_sort arc.to q arc.cap (with_gain arc.from (minus arc.cap) (with_flow number arc.cap s)) refl
+    ∙ gain-other flow_sort arc.from q (minus arc.cap) (with_flow number arc.cap s) refl
+    ∙ set_in-other flow_sort flow_sort number q arc.cap s (same_row-sort flow_sort q number ∙ apart)
 
 pub excess_in-filled : (s : ℕ → State) (arc : Arc) (number q : ℤ) → int_eq q arc.from ≡ false → int_eq q arc.to ≡ false → excess_in (filled number arc s) q ≡ excess_in s q
 excess_in-filled s arc number q from to =
-    gain-other 1 arc.to q arc.cap (with_gain arc.from (minus arc.cap) (with_flow number arc.cap s)) (same_row-sort 1 q arc.to ∙ to)
-    ∙ gain-other 1 arc.from q (minus arc.cap) (with_flow number arc.cap s) (same_row-sort 1 q arc.from ∙ from)
-    ∙ set_in-other 1 2 number q arc.cap s refl
+    gain-other excess_sort arc.to q arc.cap (with_gain arc.from (minus arc.cap) (with_flow number arc.cap s)) (same_row-sort excess_sort q arc.to ∙ to)
+    ∙ gain-other excess_sort arc.from q (minus arc.cap) (with_flow number arc.cap s) (same_row-sort excess_sort q arc.from ∙ from)
+    ∙ set_in-other excess_sort flow_sort number q arc.cap s refl
 
 -- at first all is 0
 nothing_by : (n room : ℕ) (key : ℕ × ℤ) → number_at (in_rooms (replicate n empty_shard) room) key ≡ pos 0
@@ -107,5 +109,5 @@ nothing_by zero room key = ap first_or_zero (finite.get-empty row_cmp key)
 nothing_by (suc n) zero key = ap first_or_zero (finite.get-empty row_cmp key)
 nothing_by (suc n) (suc room) key = nothing_by n room key
 
-pub nothing_at_first : (node level q : ℤ) (sort : ℕ) → same_row (sort, q) (0, node) ≡ false → number_at (with_height node level empty_rooms (room_of q)) (sort, q) ≡ pos 0
-nothing_at_first node level q sort apart = set_in-other sort 0 node q level empty_rooms apart ∙ nothing_by rooms (room_of q) (sort, q)
+pub nothing_at_first : (node level q : ℤ) (sort : ℕ) → same_row (sort, q) (height_sort, node) ≡ false → number_at (with_height node level empty_rooms (room_of q)) (sort, q) ≡ pos 0
+nothing_at_first node level q sort apart = set_in-other sort height_sort node q level empty_rooms apart ∙ nothing_by rooms (room_of q) (sort, q)

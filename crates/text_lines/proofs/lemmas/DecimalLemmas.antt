@@ -6,7 +6,7 @@ use Rattle.std.proofs.lemmas.Bool.Decides.{nat_tests}
 use Rattle.std.proofs.lemmas.Fmt.{decimal_by_steps, length-decimal-le}
 use Rattle.std.specs.Char.{is_ascii_digit}
 use Rattle.std.specs.Fmt.{decimal}
-use Rattle.text_lines.specs.Numbers.{all_digits, value_from, number_of}
+use Rattle.text_lines.specs.Numbers.{all_digits, value_from, digits_value_of, number_of}
 
 -- digits, at least one, that spell the number
 pub record AreDigitsOf (n : ℕ) (ds : List ℕ) : Type 0 where
@@ -46,7 +46,7 @@ decimal-AreDigitsOf n lt = decimal_by_steps AreDigitsOf one-AreDigitsOf more-Are
 
 -- 18 digits at most are read
 pub number_of-AreDigitsOf : (n : ℕ) (ds : List ℕ) → length ds ≤ 18 → AreDigitsOf n ds → number_of ds ≡ Some n
-unfolding number_of
+unfolding number_of digits_value_of
 number_of-AreDigitsOf n ds le h =
     let s : nat_lt 0 (length ds) ≡ true = lt-ltb _ _ h.some in
     let t : nat_le (length ds) 18 ≡ true = le-leb _ _ le in

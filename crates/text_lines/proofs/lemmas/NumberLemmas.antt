@@ -1,12 +1,12 @@
 -- The number of a field.
-use Rattle.std.proofs.Common.{◌≡◌, ℕ, ◌+◌, ◌-◌, ◌*◌, ◌^◌, ◌<◌, ◌≤◌, Bool, true, false, ◌&&◌, eqb, leb, ltb, List, [], ◌∷◌, length, get_or, drop, Some, None, refl, sym, ◌∙◌, add-one, arith}
+use Rattle.std.proofs.Common.{◌≡◌, ℕ, ◌+◌, ◌-◌, ◌*◌, ◌^◌, ◌<◌, ◌≤◌, Bool, true, false, cond, ◌&&◌, eqb, leb, ltb, List, [], ◌∷◌, length, get_or, drop, Option, Some, None, refl, sym, ◌∙◌, add-one, arith}
 use Rattle.std.proofs.lemmas.Bool.{and_parts, eqb-false, leb-true, lt-ltb, le-leb}
 use Rattle.std.proofs.lemmas.Bool.Decides.{nat_tests}
 use Rattle.std.proofs.lemmas.List.{at_drop_more}
 use Rattle.std.proofs.lemmas.Option.{cond_some}
 use Rattle.std.proofs.Math.Nat.{pow-le-pow_right, pow-suc}
 use Rattle.std.specs.Char.{is_ascii_digit}
-use Rattle.text_lines.specs.Numbers.{all_digits, value_from, number_of}
+use Rattle.text_lines.specs.Numbers.{all_digits, value_from, digits_value_of, number_of}
 
 pub no_digits : (field : List ℕ) → length field ≡ 0 → None ≡ number_of field
 unfolding number_of
@@ -19,19 +19,20 @@ too_many field lt =
     let t : leb (length field) 18 ≡ false = grind (arith, nat_tests) in
     rw (s, t) refl
 
-pub other_sign : (field : List ℕ) → 0 < length field → length field ≤ 18 → all_digits field ≡ false → None ≡ number_of field
+pub few_digits : (field : List ℕ) → 0 < length field → length field ≤ 18 → digits_value_of field ≡ number_of field
 unfolding number_of
-other_sign field some le h =
+few_digits field some le =
     let s : ltb 0 (length field) ≡ true = lt-ltb _ _ some in
     let t : leb (length field) 18 ≡ true = le-leb _ _ le in
-    rw (s, t, h) refl
+    rw (s, t) refl
 
-pub only_digits : (field : List ℕ) → 0 < length field → length field ≤ 18 → all_digits field ≡ true → Some (value_from 0 field) ≡ number_of field
-unfolding number_of
-only_digits field some le h =
-    let s : ltb 0 (length field) ≡ true = lt-ltb _ _ some in
-    let t : leb (length field) 18 ≡ true = le-leb _ _ le in
-    rw (s, t, h) refl
+pub other_sign : (field : List ℕ) → all_digits field ≡ false → None ≡ digits_value_of field
+unfolding digits_value_of
+other_sign field h = rw h refl
+
+pub only_digits : (field : List ℕ) → all_digits field ≡ true → Some (value_from 0 field) ≡ digits_value_of field
+unfolding digits_value_of
+only_digits field h = rw h refl
 
 -- one digit more
 pub digits_more : (field : List ℕ) (i : ℕ) → i < length field → is_ascii_digit (get_or field i 0) ≡ true → all_digits (drop i field) ≡ all_digits (drop (i + 1) field)
@@ -78,13 +79,17 @@ value_from-below (d ∷ ds) n i j count h lt =
     value_from-below ds (10 * n + (d - 48)) (i + 1) j same parts.1 (small_more n (d - 48) i (digit_small d parts.0) lt)
 
 pub number_of-below : (field : List ℕ) (n : ℕ) → number_of field ≡ Some n → n < 10 ^ 18
-unfolding number_of
+unfolding number_of digits_value_of
 number_of-below field n h =
     let some = ltb 0 (length field) in
     let few = leb (length field) 18 in
-    let found : (((some && few) && all_digits field) ≡ true) × (value_from 0 field ≡ n) = cond_some ((some && few) && all_digits field) (value_from 0 field) n h in
-    let outer : ((some && few) ≡ true) × (all_digits field ≡ true) = and_parts (some && few) (all_digits field) found.0 in
-    let inner : (some ≡ true) × (few ≡ true) = and_parts some few outer.0 in
+    let parts = cond_some_by (some && few) (digits_value_of field) n h in
+    let inner : (some ≡ true) × (few ≡ true) = and_parts some few parts.0 in
     let count : length field ≤ 18 = leb-true (length field) 18 inner.1 in
-    let value : value_from 0 field < 10 ^ length field = value_from-below field 0 0 (length field) (omega arith) outer.1 (omega arith) in
+    let found : (all_digits field ≡ true) × (value_from 0 field ≡ n) = cond_some (all_digits field) (value_from 0 field) n parts.1 in
+    let value : value_from 0 field < 10 ^ length field = value_from-below field 0 0 (length field) (omega arith) found.0 (omega arith) in
     small_value n (length field) count (rw found.1 at value)
+  where
+    cond_some_by : (b : Bool) (o : Option ℕ) (m : ℕ) → cond b o None ≡ Some m → (b ≡ true) × (o ≡ Some m)
+    cond_some_by true o m e = (refl, e)
+    cond_some_by false o m e = absurd (cc)

@@ -1,10 +1,11 @@
 use Rattle.std.proofs.Common.{◌≡◌, ◌∙◌, ap, arith}
+use Rattle.gx_base.specs.FlowKind.{flow_first}
 use Rattle.gx_base.specs.ShippedTables.{rows_chosen}
 use Rattle.gx_base.specs.TableRows.{row_of}
 use Rattle.gx_base.specs.declared.kinds.Kind.TheVariants.{Flow}
 use Rattle.kind_tables.proofs.CallerLemmas.{tables_of-SuitKind}
 use Rattle.kind_tables.specs.FlowTables.{flow_tables}
-use Rattle.flow_graph.proofs.tables.Fills.{filled_to, filled-none, filled-more, filled-row, filled-all}
+use Rattle.flow_graph.proofs.tables.Fills.{flow_end, filled_to, filled-none, filled-more, filled-row, filled-all}
 use Rattle.flow_graph.proofs.shipping.flow_table.Goals as goal
 
 pub loop-first-init : goal.loop-first-init
@@ -17,10 +18,10 @@ loop-second-preserved c = λ m n.
 
 pub loop-first-preserved : goal.loop-first-preserved
 loop-first-preserved c = λ m n.
-    let e : c.loop-second.second ≡ 22 = omega arith in
+    let e : c.loop-second.second ≡ flow_end = omega arith in
     c.loop-second.invariant m n ∙ ap (λ s. filled_to (rows_chosen flow_tables c.args.choice) c.loop-first.first s m n) e ∙ filled-row (rows_chosen flow_tables c.args.choice) c.loop-first.first m n
 
 pub returns : goal.returns
 returns c = λ m n.
-    let e : c.loop-first.first ≡ 22 = omega arith in
-    c.loop-first.invariant m n ∙ ap (λ f. filled_to (rows_chosen flow_tables c.args.choice) f 16 m n) e ∙ filled-all (rows_chosen flow_tables c.args.choice) ((tables_of-SuitKind Flow).keeps_to_kind c.args.choice) m n
+    let e : c.loop-first.first ≡ flow_end = omega arith in
+    c.loop-first.invariant m n ∙ ap (λ f. filled_to (rows_chosen flow_tables c.args.choice) f flow_first m n) e ∙ filled-all (rows_chosen flow_tables c.args.choice) ((tables_of-SuitKind Flow).keeps_to_kind c.args.choice) m n

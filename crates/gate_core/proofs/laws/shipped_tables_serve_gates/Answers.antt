@@ -1,5 +1,5 @@
 use Rattle.gx_base.specs.Kinds.{kind_number}
-use Rattle.gate_core.proofs.ShippedRows.{shipped_serves}
+use Rattle.gx_base.proofs.CallerLemmas.{shipped_serves}
 use Rattle.gate_core.proofs.laws.shipped_tables_serve_gates.Goals as goal
 
 pub returns-clause-valid : goal.returns-clause-valid

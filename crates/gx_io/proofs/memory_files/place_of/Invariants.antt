@@ -1,5 +1,5 @@
 use Rattle.std.proofs.Common.{◌≡◌, drop}
-use Rattle.gx_io.specs.Places.{bytes_of}
+use Rattle.gx_io.specs.NamedFiles.{bytes_of}
 use Rattle.gx_io.proofs.memory_files.place_of.Given as goal
 
 abbrev pub invariant-loop-place : goal.invariant-loop-place

@@ -1,6 +1,6 @@
 use Rattle.std.proofs.Common.{◌≡◌, ◌∙◌, ap, sym, refl, false}
 use Rattle.gx_base.specs.declared.kinds.Kind.{Kind}
-use Rattle.gx_base.specs.declared.kinds.Kind.TheVariants.{Set, Cells, Flow, Points, Domains}
+use Rattle.gx_base.specs.declared.kinds.Kind.TheVariants.{Flow}
 use Rattle.gx_base.specs.ShippedTables.{rows_shipped}
 use Rattle.gx_base.specs.TableRows.{row_of}
 use Rattle.gx_base.proofs.CallerLemmas.{row_of-empty}
@@ -9,11 +9,8 @@ use Rattle.flow_graph.specs.FlowState.{holds_flow}
 use Rattle.flow_graph.proofs.shard.FlowShardSeqType.shipped.Goals as goal
 
 not_held : (kind : Kind) → (kind ≡ Flow → ⊥) → holds_flow kind ≡ false
-not_held Set n = refl
-not_held Cells n = refl
 not_held Flow n = absurd (n refl)
-not_held Points n = refl
-not_held Domains n = refl
+not_held kind n = refl
 
 pub returns-in_default : goal.returns-in_default
 returns-in_default c = λ m n.

@@ -4,7 +4,7 @@ use Rattle.gx_base.specs.Methods.{methods_of}
 use Rattle.gx_base.specs.TableRows.{row_of}
 use Rattle.gx_base.proofs.CallerLemmas.{methods_from}
 use Rattle.galois_run.specs.commands.Classify.{row_line}
-use Rattle.cond_text.proofs.CallerLemmas.{one_more_piece}
+use Rattle.cond_print.proofs.CallerLemmas.{one_more_piece}
 use Rattle.galois_run.proofs.commands.classify.put_first.Goals as goal
 
 pub loop-second-preserved : goal.loop-second-preserved

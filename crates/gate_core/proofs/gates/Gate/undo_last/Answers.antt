@@ -3,7 +3,7 @@ use Rattle.std.specs.Prelude.{Some}
 use Rattle.gx_base.specs.Kinds.{kind_number}
 use Rattle.gx_base.specs.declared.acts.Entry.{Entry}
 use Rattle.gate_core.specs.Entries.{has_entry, last_of, without_last}
-use Rattle.gate_core.specs.Places.{IsLastPlace}
+use Rattle.gate_core.specs.LastPlaces.{IsLastPlace}
 use Rattle.gate_core.specs.Views.{GateView, undo_last}
 use Rattle.gate_core.specs.CallAnswers.{call_of}
 use Rattle.gate_core.proofs.lists.EntryLists.{loses_last}

@@ -2,7 +2,7 @@ use Rattle.std.proofs.Common.{rules, ap, sym, ◌∙◌, subst, ◌≡◌}
 use Rattle.std.specs.FinMap as map
 use Rattle.indexmap.proofs.CallerLemmas.{filter-RetainsPairs}
 use Rattle.number_rows.specs.Entries.{FitAll, dead_in}
-use Rattle.number_rows.specs.Rows.{number_in}
+use Rattle.number_rows.specs.NumbersAsRows.{number_in}
 use Rattle.number_rows.proofs.entries.DeadRows.{live_entries, number_in-live, FitAll-live, dead_in-live}
 use Rattle.number_rows.proofs.rows.NumberRows.drop_dead_rows.Goals as goal
 
