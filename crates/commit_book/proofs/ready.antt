@@ -1,1 +1,2 @@
 pub mod ReadySets
+pub mod RisingItems

@@ -1,7 +1,8 @@
 -- A book as plain data: what is ready, who holds which item, and what has committed; and what each call makes of it.
-use Rattle.std.specs.Prelude.{ℕ, ◌+◌, Bool, true, false, not, ◌&&◌, ◌||◌, ◌==◌, nat_lt, if◌then◌else◌, Option, Some, None, List, [], ◌∷◌, ◌++◌, length}
+use Rattle.std.specs.Prelude.{ℕ, ◌+◌, Bool, true, false, not, ◌&&◌, ◌||◌, ◌==◌, nat_lt, if◌then◌else◌, Option, Some, None, List, [], ◌∷◌, ◌++◌, length, refl}
+use Rattle.std.specs.Coded.{Coded, code_by, coded×, coded_ℕ, coded_bool, coded_list}
 use Rattle.gx_base.specs.declared.items.Item.{Item}
-use Rattle.gx_base.specs.Outcomes.{Outcome, WholeCommit, journal}
+use Rattle.gx_base.specs.Outcomes.{Outcome, WholeCommit, journal, item_code, whole_commit_code}
 use Rattle.gx_base.specs.SerialIterations.{may_commit, ready_after}
 use Rattle.gx_base.specs.Worklists.{same_item, is_before, has_item, with_items}
 
@@ -146,3 +147,21 @@ commit b worker iter item o = record b {
   holds = without_item_held b.holds item;
   commits = b.commits ++ record { worker = worker; iter = iter; item = item; outcome = o } ∷ [];
 }
+
+-- ---- how these are stored
+
+-- a hold and a book are stored as their fields
+abbrev pub hold_code : Coded Hold
+hold_code =
+    code_by (ℕ × (ℕ × (Item × Bool))) (coded× coded_ℕ (coded× coded_ℕ (coded× item_code coded_bool)))
+    (λ h. (h.worker, (h.iter, (h.item, h.named))))
+    (λ p. record { worker = p.0; iter = p.1.0; item = p.1.1.0; named = p.1.1.1 })
+    (λ _. refl)
+
+abbrev pub book_code : Coded BookView
+book_code =
+    code_by (Bool × (List Item × (List Item × (List Hold × List WholeCommit))))
+    (coded× coded_bool (coded× (coded_list item_code) (coded× (coded_list item_code) (coded× (coded_list hold_code) (coded_list whole_commit_code)))))
+    (λ b. (b.ordered, (b.first_ready, (b.ready, (b.holds, b.commits)))))
+    (λ p. record { ordered = p.0; first_ready = p.1.0; ready = p.1.1.0; holds = p.1.1.1.0; commits = p.1.1.1.1 })
+    (λ _. refl)

@@ -7,12 +7,10 @@ ghost use Rattle.commit_book.specs.SerialRuns.{operator_of, IsWholeRun, IsUnfini
 ghost use Rattle.commit_book.specs.declared.serial.SerialStop.TheVariants as stops;
 ghost use Rattle.std.specs.declared.result.Result.TheVariants.{Err};
 
+use crate::limits::MOST_COMMITS;
 use crate::{BodyLog, Operator, Worklist};
 use gx_base::{Act, Commit, Item, NoMemory, Reply, SeqType, Step};
 use std::alloc::{AllocFailed, Global};
-
-/// How many items may commit.
-pub const MOST_COMMITS: usize = 4_194_304;
 
 /// Why a serial run didn't end. The objects stand as its commits left them, or within a body after want of memory.
 #[derive(Clone, Copy, Debug, PartialEq, Eq, Drop)]

@@ -1,6 +1,9 @@
 ghost use Rattle.std.specs.Prelude.{◌≡◌, ◌↔◌, ℕ, [], ◌∷◌, take, IsTrue, IfSome, IfNone, OnOk, OnErr};
-ghost use Rattle.gx_base.specs.Worklists.{has_item, is_least, with_item, with_items, without_item};
+ghost use Rattle.gx_base.specs.Worklists.{has_item, is_least, with_item, with_items, without_item, without_items};
+ghost use Rattle.commit_book.specs.BookViews.{first_free};
+ghost use Rattle.commit_book.specs.LawfulBooks.{AreRising, least_before};
 
+use crate::holds::Holds;
 use gx_base::{Item, NoMemory};
 use std::alloc::Global;
 use std::collections::BTreeSet;
@@ -71,6 +74,56 @@ impl Worklist {
         match self.items.first() {
             Some(item) => Some(*item),
             None => None,
+        }
+    }
+
+    /// The least item, where it comes before this one.
+    pub fn least_before(&self, item: Item) -> Option<Item>
+        ensures { result ≡ least_before self.now item }
+    {
+        let least = *self.items.first()?;
+        if least.cmp(&item).is_lt() {
+            Some(least)
+        } else {
+            None
+        }
+    }
+
+    /// The least item that is held by no iteration.
+    pub fn first_free(&self, holds: &Holds) -> Option<Item>
+        ensures { result ≡ first_free holds.now self.now }
+    {
+        for item in self.items.iter() {
+            if !holds.has(*item) {
+                return Some(*item);
+            }
+        }
+        None
+    }
+
+    /// Makes each of the items ready, and notes in `added` those that weren't so. Where memory runs out only some of the
+    /// items are ready, but `added` still has each of these that wasn't so before.
+    pub fn insert_noting(&mut self, items: &[Item], added: &mut Vec<Item>) -> Result<(), NoMemory>
+        requires { AreRising self.old }
+        ensures ok { OnOk result (self.new ≡ with_items self.old items.now) }
+        ensures back { without_items self.new added.new.items ≡ self.old }
+    {
+        added.clear();
+        for item in items {
+            if !self.has(*item) {
+                added.push(*item)?;
+                self.insert(*item)?;
+            }
+        }
+        Ok(())
+    }
+
+    /// Takes each of the items out.
+    pub fn remove_all(&mut self, items: &[Item])
+        ensures { self.new ≡ without_items self.old items.now }
+    {
+        for item in items {
+            self.remove(*item);
         }
     }
 

@@ -91,6 +91,16 @@ pub one_more_ready : (xs ready before now : List Item) (i : ℕ) (d : Item) → 
 one_more_ready xs ready before now i d h e n =
     n ∙ ap (λ ys. with_item ys (slice_index_or xs i d)) e ∙ sym (with_items-append (take i xs) ready (slice_index_or xs i d)) ∙ ap (with_items ready) (sym (take_more xs i d h))
 
+without_items-append : (xs ready : List Item) (x : Item) → without_items ready (xs ++ x ∷ []) ≡ without_item (without_items ready xs) x
+unfolding without_items
+without_items-append [] ready x = refl
+without_items-append (y ∷ ys) ready x = without_items-append ys (without_item ready y) x
+
+-- one more item of a list leaves
+pub one_fewer_ready : (xs ready before now : List Item) (i : ℕ) (d : Item) → i < length xs → before ≡ without_items ready (take i xs) → now ≡ without_item before (slice_index_or xs i d) → now ≡ without_items ready (take (i + 1) xs)
+one_fewer_ready xs ready before now i d h e n =
+    n ∙ ap (λ ys. without_item ys (slice_index_or xs i d)) e ∙ sym (without_items-append (take i xs) ready (slice_index_or xs i d)) ∙ ap (without_items ready) (sym (take_more xs i d h))
+
 -- ---- items that are the same
 
 pub is_equal : (r : Ordering) → is_eq r ≡ true → r ≡ Equal

@@ -1,0 +1,3 @@
+pub mod HoldLists
+pub mod Pasts
+pub mod LawfulLemmas
