@@ -2,3 +2,4 @@ pub mod GivenTurns
 pub mod WrittenRows
 pub mod DiamondTurns
 pub mod SetterTurns
+pub mod NewCases

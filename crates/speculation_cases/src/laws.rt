@@ -4,10 +4,17 @@ ghost use Rattle.std.specs.Prelude.{◌≡◌};
 ghost use Rattle.gx_base.specs.TableRows.{RowMap};
 ghost use Rattle.gx_base.specs.declared.kinds.Kind.TheVariants.{Cells, Flow};
 ghost use Rattle.preflow_push.specs.Discharge.{discharge_operator};
+ghost use Rattle.speculation.specs.Premises.{IsNew};
 ghost use Rattle.speculation.specs.ScheduledRuns.{begun, scheduled, drained};
 ghost use Rattle.speculation_cases.specs.Beginnings.{HasPreciseRows};
 ghost use Rattle.speculation_cases.specs.Diamond.{net, diamond, alternating, turns_of_both, turns_with_drain};
 ghost use Rattle.speculation_cases.specs.SmallConflict.{setters, two_setters, setters_schedule, turns_of_setters};
+
+/// The machines of these cases are new ones, so every law of the speculative machine speaks of them.
+pub fn the_cases_begin_new()
+    ensures diamond { (table : RowMap) → HasPreciseRows Flow table → IsNew (discharge_operator net) (diamond table) }
+    ensures setters { (table : RowMap) → HasPreciseRows Cells table → IsNew setters (two_setters table) }
+{}
 
 /// An ordered loop of two bodies that read one cell and then set it: a conflict that names, one that
 /// undoes, and one of an iteration without entries.

@@ -1,0 +1,88 @@
+-- The machines of the cases are new ones.
+use Rattle.std.specs.Prelude.{◌≡◌, ℕ, zero, suc, ℤ, pos, negsuc, List, [], ◌∷◌, FitsSigned, refl, ⊤}
+use Rattle.std.proofs.Common.{sym, subst, arith}
+use Rattle.std.specs.FinMap as finite
+use Rattle.std.specs.Int.{w64}
+use Rattle.gx_base.specs.declared.kinds.Kind.{Kind}
+use Rattle.gx_base.specs.declared.kinds.Kind.TheVariants.{Cells, Flow}
+use Rattle.gx_base.specs.declared.kinds.Choice.TheVariants.{Precise}
+use Rattle.gx_base.specs.Kinds.{kind_number}
+use Rattle.gx_base.specs.States.{State, row_cmp, IsNumberRow, HoldsNumbers}
+use Rattle.gx_base.specs.Steps.{Holds}
+use Rattle.gx_base.specs.TableRows.{RowMap, row_of}
+use Rattle.gx_base.specs.Tables.{Rows, KeepsToKind, IsValid}
+use Rattle.gx_base.specs.Worklists.{item_cmp, has_item, with_item, with_items, is_least}
+use Rattle.gx_base.proofs.CallerLemmas.{with_number-HoldsNumbers}
+use Rattle.kind_tables.specs.TablesOfKinds.{shipped_rows}
+use Rattle.kind_tables.proofs.CallerLemmas.{tables_of-SuitKind}
+use Rattle.preflow_push.specs.Discharge.{discharge_operator}
+use Rattle.speculation.specs.Premises.{IsNewGate, IsNew}
+use Rattle.speculation_cases.specs.Beginnings.{Written, written, HasPreciseRows, new_gate}
+use Rattle.speculation_cases.specs.Diamond.{net, first_numbers, diamond}
+use Rattle.speculation_cases.specs.SmallConflict.{setters, two_setters}
+
+-- the numbers have 64 bits
+abbrev pub HaveBits : Written → Type 0
+HaveBits [] = ⊤
+HaveBits (w ∷ ws) = FitsSigned w64 w.1 × HaveBits ws
+
+holds_numbers : (kind : Kind) (ws : Written) → HaveBits ws → HoldsNumbers (written kind ws)
+holds_numbers kind [] h = λ key. subst IsNumberRow (sym (finite.get-empty {X = List ℤ} row_cmp key)) tt
+holds_numbers kind (w ∷ ws) h = with_number-HoldsNumbers (written kind ws) w.0 w.1 h.0 (holds_numbers kind ws h.1)
+
+kind_is : (kind : Kind) (ws : Written) → (written kind ws).kind ≡ kind_number kind
+kind_is kind [] = refl
+kind_is kind (w ∷ ws) = kind_is kind ws
+
+begins : (kind : Kind) (table : RowMap) (ws : Written) → HasPreciseRows kind table → Holds (kind_number kind) (written kind ws) → IsNewGate (new_gate kind table ws)
+begins kind table ws h s =
+    let rows : row_of table ≡ shipped_rows kind Precise = λ i first second. h first second i in
+    record {
+      lawful = record {
+        valid = subst (IsValid (kind_number kind)) (sym rows) ((tables_of-SuitKind kind).valid Precise);
+        keeps_to_kind = subst (KeepsToKind (kind_number kind)) (sym rows) ((tables_of-SuitKind kind).keeps_to_kind Precise);
+        stands = record { of_kind = kind_is kind ws; is_state = subst (λ number. Holds number (written kind ws)) (sym (kind_is kind ws)) s };
+        done_calls = tt;
+        live_calls = tt;
+        done_legal = refl;
+        live_legal = refl;
+        pairs = tt;
+        saw = tt;
+        numbers = tt;
+        mark = refl;
+        uncommitted = tt;
+      };
+      no_done = refl;
+      no_live = refl;
+    }
+
+first_fit : (room : ℕ) → HaveBits (first_numbers room)
+first_fit zero = tt
+first_fit (suc zero) = (omega arith, (omega arith, (omega arith, tt)))
+first_fit (suc (suc zero)) = (omega arith, (omega arith, tt))
+first_fit (suc (suc (suc zero))) = (omega arith, tt)
+first_fit (suc (suc (suc (suc room)))) = tt
+
+pub diamond_is_new : (table : RowMap) → HasPreciseRows Flow table → IsNew (discharge_operator net) (diamond table)
+unfolding item_cmp has_item with_item with_items is_least
+diamond_is_new table h = record {
+  gates = λ room. begins Flow table (first_numbers room) h (holds_numbers Flow (first_numbers room) (first_fit room));
+  ordered = refl;
+  in_order = (refl, (refl, tt));
+  no_holds = refl;
+  no_commits = refl;
+  idle = λ worker. refl;
+  nothing_done = λ worker. refl;
+}
+
+pub setters_are_new : (table : RowMap) → HasPreciseRows Cells table → IsNew setters (two_setters table)
+unfolding item_cmp has_item with_item with_items is_least
+setters_are_new table h = record {
+  gates = λ room. begins Cells table [] h (holds_numbers Cells [] tt);
+  ordered = refl;
+  in_order = (refl, (refl, tt));
+  no_holds = refl;
+  no_commits = refl;
+  idle = λ worker. refl;
+  nothing_done = λ worker. refl;
+}
