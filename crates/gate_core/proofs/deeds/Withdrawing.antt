@@ -14,6 +14,13 @@ use Rattle.gate_core.specs.CallAnswers.{AllRoomed, IsGate, call_of}
 use Rattle.gate_core.proofs.lists.EntryLists.{neither, each_at, each_same, each_filter, each_without}
 use Rattle.gate_core.proofs.lawful.KeptLawful.{undo_entry_keeps, release_keeps}
 
+-- the entries that leave are those of a list, under whichever name it goes
+pub appended : (worker iter number : ℕ) (done now xs ys : List Entry) → now ≡ done ++ done_under number (entries_of worker iter xs) → xs ≡ ys → now ≡ done ++ done_under number (entries_of worker iter ys)
+appended worker iter number done now xs ys e same = subst (λ (zs : List Entry). now ≡ done ++ done_under number (entries_of worker iter zs)) same e
+
+pub marked : (worker iter number was now : ℕ) (xs ys : List Entry) → now ≡ (if has_entry worker iter xs then number + 1 else was) → xs ≡ ys → now ≡ (if has_entry worker iter ys then number + 1 else was)
+marked worker iter number was now xs ys e same = subst (λ (zs : List Entry). now ≡ (if has_entry worker iter zs then number + 1 else was)) same e
+
 -- what is taken out of the place is the last entry
 pub last_at : (worker iter : ℕ) (es : List Entry) (place : ℕ) (e : Entry) → IsLastPlace worker iter es (Some place) → e ≡ get_or es place e → last_of worker iter es ≡ Some e
 last_at worker iter es place e h g = h.1 ∙ slice_get_read es (length es) place e refl h.0 g

@@ -1,9 +1,9 @@
-use Rattle.std.proofs.Common.{◌+◌, ◌≤◌, ◌++◌, List, if◌then◌else◌, vec_capacity, sym, ◌∙◌, ap, subst, arith}
+use Rattle.std.proofs.Common.{◌≤◌, List, vec_capacity, sym, subst, arith}
 use Rattle.gx_base.specs.Kinds.{kind_number}
 use Rattle.gx_base.specs.declared.acts.Entry.{Entry}
-use Rattle.gate_core.specs.Entries.{entries_of, others_than, has_entry, done_under}
+use Rattle.gate_core.specs.Entries.{others_than}
 use Rattle.gate_core.specs.Views.{GateView}
-use Rattle.gate_core.proofs.deeds.Withdrawing.{gate_releases}
+use Rattle.gate_core.proofs.deeds.Withdrawing.{appended, marked, gate_releases}
 use Rattle.gate_core.proofs.gates.Gate.release.Goals as goal
 
 pub invariant_of-self : goal.invariant_of-self
@@ -13,9 +13,9 @@ invariant_of-self g c =
     gate_releases v (g.T.SeqType.has_room c.self.inside.object) (g.T.SeqType.has_room c.self.inside.object) (g.S.Screen.stands_for c.self.inside.screen) (g.S.Screen.stands_for c.leave.new.screen)
     (g.S.Screen.suits c.self.inside.screen) (g.S.Screen.suits c.leave.new.screen) (vec_capacity c.self.inside.done) (vec_capacity c.append_done-self-inside.new.done) c.self.invariant
     c.args.worker c.args.iter c.args.number c.append_done-self-inside.new.done.items c.keep_others.new.self.entries.items c.append_done-self-inside.result below
-    (c.append_done-self-inside.ensures.done ∙ ap (λ (xs : List Entry). c.self.inside.done.items ++ done_under c.args.number (entries_of c.args.worker c.args.iter xs)) c.as_slice-2.ensures.value)
+    (appended c.args.worker c.args.iter c.args.number c.self.inside.done.items c.append_done-self-inside.new.done.items _ _ c.append_done-self-inside.ensures.done c.as_slice-2.ensures.value)
     c.keep_others.ensures
-    (c.append_done-self-inside.ensures.mark ∙ ap (λ (xs : List Entry). if has_entry c.args.worker c.args.iter xs then c.args.number + 1 else c.self.inside.mark) c.as_slice-2.ensures.value)
+    (marked c.args.worker c.args.iter c.args.number c.self.inside.mark c.append_done-self-inside.result _ _ c.append_done-self-inside.ensures.mark c.as_slice-2.ensures.value)
     (λ made r. r)
     (λ x. subst (λ (xs : List Entry). g.S.Screen.stands_for c.leave.new.screen (others_than c.args.worker c.args.iter xs)) c.as_slice.ensures.value c.leave.ensures.entries)
     (λ x. (c.leave.ensures.same (kind_number c.self.inside.kind) c.self.inside.table).0 x)

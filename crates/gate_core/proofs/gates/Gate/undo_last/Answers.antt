@@ -38,7 +38,7 @@ invariant_of-self g c =
     let last : last_of c.args.worker c.args.iter c.self.inside.live.entries.items ≡ Some c.remove-entry.result = last_at c.args.worker c.args.iter c.self.inside.live.entries.items c.in_ok-place.place c.remove-entry.result at c.remove-entry.ensures.value in
     gate_undoes v (g.T.SeqType.has_room c.self.inside.object) (g.T.SeqType.has_room c.take_back.new.object) (g.S.Screen.stands_for c.self.inside.screen) (g.S.Screen.stands_for c.left.new.self)
     (g.S.Screen.suits c.self.inside.screen) (g.S.Screen.suits c.left.new.self) (vec_capacity c.self.inside.done) (vec_capacity c.self.inside.done) c.self.invariant
-    c.args.worker c.args.iter c.remove-entry.result (g.T.SeqType.state c.take_back.new.object) c.remove-entry.new.self.entries.items last c.take_back.ensures.state (c.remove-entry.ensures.items ∙ sym at.2) c.take_back.ensures.kept
+    c.args.worker c.args.iter c.remove-entry.result (g.T.SeqType.state c.take_back.new.object) c.remove-entry.new.self.entries.items last c.take_back.ensures.state (◌∙◌ {A = List Entry} c.remove-entry.ensures.items (sym at.2)) c.take_back.ensures.kept
     (λ x. c.left.ensures.entries c.self.inside.live.entries.items (without_last c.args.worker c.args.iter c.self.inside.live.entries.items) x (loses_last c.args.worker c.args.iter c.self.inside.live.entries.items c.remove-entry.result last))
     (λ x. (c.left.ensures.same (kind_number c.self.inside.kind) c.self.inside.table).0 x) (omega arith)
 
@@ -48,7 +48,7 @@ returns-clause-new g c =
     let at : IsLastPlace c.args.worker c.args.iter c.self.inside.live.entries.items (Some c.in_ok-place.place) = subst (λ (xs : List Entry). IsLastPlace c.args.worker c.args.iter xs (Some c.in_ok-place.place)) c.as_slice.ensures.value c.in_ok-place.ensures in
     let last : last_of c.args.worker c.args.iter c.self.inside.live.entries.items ≡ Some c.remove-entry.result = last_at c.args.worker c.args.iter c.self.inside.live.entries.items c.in_ok-place.place c.remove-entry.result at c.remove-entry.ensures.value in
     subst (λ old. ◌≡◌ {A = GateView} (record v { state = g.T.SeqType.state c.take_back.new.object; live = c.remove-entry.new.self.entries.items }) (undo_last old c.args.worker c.args.iter)) c.self.view_is
-    (undone_view v c.args.worker c.args.iter c.remove-entry.result (g.T.SeqType.state c.take_back.new.object) c.remove-entry.new.self.entries.items last c.take_back.ensures.state (c.remove-entry.ensures.items ∙ sym at.2))
+    (undone_view v c.args.worker c.args.iter c.remove-entry.result (g.T.SeqType.state c.take_back.new.object) c.remove-entry.new.self.entries.items last c.take_back.ensures.state (◌∙◌ {A = List Entry} c.remove-entry.ensures.items (sym at.2)))
 
 pub returns-clause-back : goal.returns-clause-back
 returns-clause-back g c =
