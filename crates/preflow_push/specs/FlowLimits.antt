@@ -60,5 +60,5 @@ answer_of (Err fault) = Err fault
 abbrev pub sized : Net → Result Net InputFault
 sized net =
     if int_le net.nodes (pos most_nodes) then
-      (if nat_le (length net.arcs) most_arcs then Ok net else Err (Large Arcs))
+    (if nat_le (length net.arcs) most_arcs then Ok net else Err (Large Arcs))
     else Err (Large Nodes)

@@ -11,17 +11,10 @@ use text_lines::{next_field, number};
 pub enum Said {
     /// Nothing: the line is skipped.
     Nothing,
-    Problem {
-        nodes: u64,
-        arcs: u64,
-    },
+    Problem { nodes: u64, arcs: u64 },
     Source(u64),
     Sink(u64),
-    Arc {
-        from: u64,
-        to: u64,
-        cap: u64,
-    },
+    Arc { from: u64, to: u64, cap: u64 },
     /// Something that no line of a flow file says.
     Wrong,
 }

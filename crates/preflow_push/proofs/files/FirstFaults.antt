@@ -80,12 +80,7 @@ free_node n (Some y) h = elim (cases_eq y 1) [
   | inr ne ↦ record { id = 1; which = inl refl; stands = record { first = refl; node = record { from_one = omega arith; within = omega arith }; free = λ z ez same. let f : y ≡ z = cc in ne (f ∙ sym same) } }
 ]
 
--- with a source, and with a sink
-record HasBoth (n m : ℕ) (s : State) (l : List arcs.Arc) : Type 0 where
-  source : ℕ
-  sink : ℕ
-  reach : Reach s (st n m (Some source) (Some sink) l)
-
+-- to a state with a source, and to one with a sink
 with_source : (n m : ℕ) (a b : Option ℕ) (l : List arcs.Arc) → Good n m a b l → (i : ℕ) × Reach (st n m a b l) (st n m (Some i) b l) × Good n m (Some i) b l
 with_source n m (Some i) b l g = (i, stay (st n m (Some i) b l), g)
 with_source n m None b l g =

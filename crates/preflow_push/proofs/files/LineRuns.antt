@@ -22,9 +22,6 @@ abbrev pub after : List Said → State → Option State
 after [] s = Some s
 after (said ∷ saids) s = then_after (step said s) (after saids)
 
-abbrev done : State → Option State
-done s = Some s
-
 -- a step that was taken
 went : (b : Bool) (s t : State) (xs : List Said) → then_after (cond b (Some s) None) (after xs) ≡ Some t → (b ≡ true) × (after xs s ≡ Some t)
 went true s t xs h = (refl, h)

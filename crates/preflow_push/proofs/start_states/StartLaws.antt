@@ -139,8 +139,8 @@ excess_in-full : (number q total : ℤ) (arc : Arc) (s : ℕ → State) → Fits
 excess_in-full number q total arc s fits is =
     excess_in-gain arc.to q arc.cap (with_gain arc.from (minus arc.cap) (with_flow number arc.cap s)) (int_eq q arc.to) refl
     ∙ ap (λ (k : ℤ). if int_eq q arc.to then int_wrapping_add w64 k arc.cap else k)
-        (excess_in-gain arc.from q (minus arc.cap) (with_flow number arc.cap s) (int_eq q arc.from) refl
-        ∙ ap (λ (k : ℤ). if int_eq q arc.from then int_wrapping_add w64 k (minus arc.cap) else k) (set_in-other excess_sort flow_sort number q arc.cap s refl))
+    (excess_in-gain arc.from q (minus arc.cap) (with_flow number arc.cap s) (int_eq q arc.from) refl
+    ∙ ap (λ (k : ℤ). if int_eq q arc.from then int_wrapping_add w64 k (minus arc.cap) else k) (set_in-other excess_sort flow_sort number q arc.cap s refl))
     ∙ after_both (excess_in s q) arc.cap total (int_eq q arc.to) (int_eq q arc.from) fits is
 
 nothing_brought : (q : ℤ) (arc : Arc) → brought q arc (pos 0) ≡ pos 0
@@ -162,7 +162,7 @@ excesses-poured : (source : ℤ) (n : ℕ) (arcs : List Arc) (s : ℕ → State)
 excesses-poured source n [] s flows q total fits flow is = is ∙ ap (int_wrap w64) (omega (arith, ints))
 excesses-poured source n (arc ∷ arcs) s flows q total fits flow is =
     let first : excess_in (filled_from source (pos n) arc s) q ≡ int_wrap w64 (total +ℤ brought q arc (carried source arc)) =
-        excess_by (pos n) q total arc s (int_eq arc.from source) fits.0 is in
+    excess_by (pos n) q total arc s (int_eq arc.from source) fits.0 is in
     excesses-poured source (suc n) arcs (filled_from source (pos n) arc s) flows q (total +ℤ brought q arc (carried source arc)) fits.1 flow.1 first
     ∙ ap (λ (x : ℤ). int_wrap w64 ((total +ℤ brought q arc x) +ℤ balance flows q (suc n) arcs)) (sym flow.0)
     ∙ ap (int_wrap w64) (sum_of total (brought q arc (flows (pos n))) (balance flows q (suc n) arcs))
