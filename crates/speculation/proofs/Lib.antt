@@ -15,4 +15,5 @@ pub mod InWay
 pub mod EventLemmas
 pub mod Theorems
 pub mod PlanCalls
+pub mod Limited
 pub mod CallerLemmas

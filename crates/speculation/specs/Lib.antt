@@ -5,3 +5,4 @@ pub mod EventRows
 pub mod ScheduledRuns
 pub mod Premises
 pub mod RunResults
+pub mod Limits

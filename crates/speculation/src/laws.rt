@@ -6,6 +6,7 @@ ghost use Rattle.gx_base.specs.Plans.{Operator};
 ghost use Rattle.gx_base.specs.declared.items.Item.{Item};
 ghost use Rattle.speculation.specs.EventRows.{Happens};
 ghost use Rattle.speculation.specs.Events.{Event};
+ghost use Rattle.speculation.specs.Limits.{EndsOrPasses};
 ghost use Rattle.speculation.specs.Machines.{Machine, place_of, turn_at, turn};
 ghost use Rattle.speculation.specs.Premises.{IsNew, HasOnlyCalls, ScheduledAsk, AsksCalls};
 ghost use Rattle.speculation.specs.RunResults.{IsSerialInTheEnd, EndsOrCommits, HasNoTraceOfAborted, IsScheduledRun};
@@ -18,9 +19,11 @@ pub fn runs_are_serial()
 {}
 
 /// Every run ends: worker 0 alone leaves nothing ready, or commits as many items as one likes. The machine
-/// knows no limits; where a run has to stop at a number of commits or of steps, it gets there.
+/// knows no limits. A loop with limits ends too: nothing is ready, or a commit would pass a limit.
 pub fn runs_end()
-    ensures { (op : Operator) (m : Machine) (workers : ℕ) (schedule : List ℕ) (count : ℕ) → IsNew op m → AllBelow schedule workers → ((turns : ℕ) → AsksCalls op m workers schedule turns)
+    ensures by_limit { (op : Operator) (m : Machine) (workers : ℕ) (schedule : List ℕ) → IsNew op m → AllBelow schedule workers → ((turns : ℕ) → AsksCalls op m workers schedule turns)
+        → EndsOrPasses op m workers schedule }
+    ensures by_count { (op : Operator) (m : Machine) (workers : ℕ) (schedule : List ℕ) (count : ℕ) → IsNew op m → AllBelow schedule workers → ((turns : ℕ) → AsksCalls op m workers schedule turns)
         → EndsOrCommits count op m workers schedule }
 {}
 
