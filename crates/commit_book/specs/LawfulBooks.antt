@@ -1,12 +1,12 @@
 -- When a book is lawful, and when it refuses a commit.
-use Rattle.std.specs.Prelude.{◌≡◌, ◌≤◌, ℕ, ◌+◌, Bool, true, false, not, ◌==◌, nat_lt, if◌then◌else◌, Option, Some, None, List, [], ◌∷◌, length, Result, Err, OnErr, ⊤}
+use Rattle.std.specs.Prelude.{◌≡◌, ◌≤◌, ℕ, Bool, true, false, not, if◌then◌else◌, Option, Some, None, List, [], ◌∷◌, length, Result, Err, OnErr, ⊤}
 use Rattle.gx_base.specs.declared.items.Item.{Item}
-use Rattle.gx_base.specs.Outcomes.{WholeCommit, journal}
+use Rattle.gx_base.specs.Outcomes.{journal}
 use Rattle.gx_base.specs.SerialRuns.{AreInTurn}
 use Rattle.gx_base.specs.Worklists.{is_before, has_item}
 use Rattle.commit_book.specs.declared.refusals.CommitRefuse.{CommitRefuse}
 use Rattle.commit_book.specs.declared.refusals.CommitRefuse.TheVariants.{NotReady, NotLeast, Spent, Kept, NoMemory}
-use Rattle.commit_book.specs.BookViews.{Hold, is_hold_of, BookView, most_commits, most_steps}
+use Rattle.commit_book.specs.BookViews.{Hold, is_hold_of, BookView, most_commits, most_steps, is_spent, is_past_journal}
 
 -- ---- lawful
 
@@ -62,12 +62,12 @@ only_if holds refuse = if holds then Some refuse else None
 
 -- why an item may not commit with so many steps, where it may not: it isn't ready, or the items are ordered and the least
 -- ready one is before it, or as many have committed as may, or the journal would have more steps than it may
-abbrev pub refusal : Bool → List Item → List WholeCommit → Item → ℕ → Option CommitRefuse
-refusal ordered ready commits item steps =
-    or_else (only_if (not (has_item ready item)) NotReady)
-    (or_else (if ordered then not_least (least_before ready item) else None)
-    (or_else (only_if (length commits == most_commits) Spent)
-    (only_if (nat_lt most_steps (length (journal commits) + steps)) Kept)))
+abbrev pub refusal : BookView → Item → ℕ → Option CommitRefuse
+refusal b item steps =
+    or_else (only_if (not (has_item b.ready item)) NotReady)
+    (or_else (if b.ordered then not_least (least_before b.ready item) else None)
+    (or_else (only_if (is_spent b) Spent)
+    (only_if (is_past_journal b steps) Kept)))
 
 -- a refusal that there is is the answer, and where there is none only memory may be wanting
 abbrev pub IsRefusedBy : Option CommitRefuse → Result ℕ CommitRefuse → Type 0

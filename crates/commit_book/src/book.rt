@@ -140,7 +140,7 @@ impl Book {
     ) -> Result<u64, CommitRefuse>
         ensures number { IfOk result (λ number. number ≡ length self.old.commits) }
         ensures ok { OnOk result (self.new ≡ commit self.old worker iter item (record { steps = log.now; pushes = pushes.now; withdrawn = [] })) }
-        ensures refused { IsRefusedBy (refusal self.old.ordered self.old.ready self.old.commits item (length log.now)) result }
+        ensures refused { IsRefusedBy (refusal self.old item (length log.now)) result }
         ensures err { OnErr result (self.new ≡ self.old) }
     {
         if let Some(refuse) = why_not(self.ordered, &self.ready, &self.past, item, log.len()) {
@@ -179,7 +179,7 @@ fn why_not(
     steps: usize,
 ) -> Option<CommitRefuse>
     requires kept { length (journal past.now) ≤ most_steps }
-    ensures { result ≡ refusal ordered ready.now past.now item steps }
+    ensures { result ≡ refusal (record { ordered = ordered; first_ready = []; ready = ready.now; holds = []; commits = past.now }) item steps }
 {
     if !ready.has(item) {
         return Some(CommitRefuse::NotReady);

@@ -11,7 +11,7 @@ use Rattle.std.specs.BTreeMap.{insert_entry, is_at}
 use Rattle.gx_base.specs.declared.items.Item.{Item}
 use Rattle.gx_base.specs.Worklists.{item_cmp, same_item, is_before, with_item}
 use Rattle.commit_book.specs.declared.holds.Holder.{Holder}
-use Rattle.commit_book.specs.BookViews.{Hold, is_hold_of, is_held, held_by, with_hold, without_iteration, without_item_held, with_name}
+use Rattle.commit_book.specs.BookViews.{Hold, is_hold_of, is_held, held_by, with_hold, without_iteration, without_item_held, holds_after, with_name, is_named_in}
 use Rattle.commit_book.specs.LawfulBooks.{AreAfter, AreRising, AreOthers, AreApart}
 use Rattle.commit_book.specs.StoredBooks.{hold_at, holds_of}
 use Rattle.commit_book.proofs.ready.ReadySets.{same_itself}
@@ -335,3 +335,22 @@ pub apart-with_name : (hs : List Hold) (worker iter : ℕ) (item : Item) → Are
 apart-with_name [] worker iter item a = tt
 apart-with_name (k ∷ ks) worker iter item a =
     renamed_by k (with_name ks worker iter item) (is_hold_of worker iter k && is_before item k.item) (others-with_name k ks worker iter item a.0) (apart-with_name ks worker iter item a.1)
+
+marked_by : (worker iter : ℕ) (h : Hold) (mine after : Bool) → is_hold_of worker iter h ≡ mine
+    → (is_hold_of worker iter (if mine && after then record h { named = true } else h) && (if mine && after then record h { named = true } else h).named) ≡ ((mine && after) || (mine && h.named))
+marked_by worker iter h true true e = ap (λ b. b && true) e
+marked_by worker iter h true false e = ap (λ b. b && h.named) e
+marked_by worker iter h false after e = ap (λ b. b && h.named) e
+
+either_paired : (a b c d : Bool) → ((a || b) || (c || d)) ≡ ((a || c) || (b || d))
+either_paired true b c d = refl
+either_paired false true true d = refl
+either_paired false true false d = refl
+either_paired false false c d = refl
+
+-- an iteration is named where it could be, or was so
+pub named-with_name : (hs : List Hold) (worker iter : ℕ) (item : Item) → is_named_in (with_name hs worker iter item) worker iter ≡ (holds_after hs worker iter item || is_named_in hs worker iter)
+named-with_name [] worker iter item = refl
+named-with_name (h ∷ hs) worker iter item =
+    (λ i. marked_by worker iter h (is_hold_of worker iter h) (is_before item h.item) refl i || named-with_name hs worker iter item i)
+    ∙ either_paired (is_hold_of worker iter h && is_before item h.item) (is_hold_of worker iter h && h.named) (holds_after hs worker iter item) (is_named_in hs worker iter)

@@ -1,5 +1,5 @@
 -- Why each call of a book keeps it lawful.
-use Rattle.std.specs.Prelude.{◌≡◌, ℕ, ◌+◌, Bool, true, false, not, ◌&&◌, ◌==◌, nat_lt, if◌then◌else◌, Option, Some, None, List, [], ◌∷◌, ◌++◌, length, refl}
+use Rattle.std.specs.Prelude.{◌≡◌, ℕ, ◌+◌, Bool, true, false, not, ◌&&◌, if◌then◌else◌, Option, Some, None, List, [], ◌∷◌, ◌++◌, length, refl}
 use Rattle.std.proofs.Common.{sym, ◌∙◌, ap, subst, arith}
 use Rattle.std.proofs.lemmas.Bool.{eqb-false, ltb-false}
 use Rattle.std.proofs.lemmas.List.{length-append}
@@ -11,7 +11,7 @@ use Rattle.gx_base.specs.SerialRuns.{AreInTurn}
 use Rattle.gx_base.specs.Worklists.{has_item, is_least, with_items, without_item}
 use Rattle.commit_book.specs.declared.refusals.CommitRefuse.{CommitRefuse}
 use Rattle.commit_book.specs.declared.refusals.CommitRefuse.TheVariants.{NotReady, Spent, Kept}
-use Rattle.commit_book.specs.BookViews.{Hold, BookView, is_held, without_item_held, first_free, new_book, give, give_found, next_free, hold, put_back, name_off, commit, most_commits, most_steps}
+use Rattle.commit_book.specs.BookViews.{Hold, BookView, is_held, without_item_held, first_free, new_book, give, give_found, next_free, hold, put_back, name_off, commit, most_commits, most_steps, is_spent, is_past_journal}
 use Rattle.commit_book.specs.LawfulBooks.{AreRising, AreApart, IsLawfulBook, least_before, not_least, or_else, only_if, refusal}
 use Rattle.commit_book.proofs.books.HoldLists.{apart-without_item, apart-without_iteration, apart-given, apart-with_name}
 use Rattle.commit_book.proofs.books.Pasts.{journal-append}
@@ -81,11 +81,11 @@ name_off_lawful b worker iter by l = other_holds b _ l (apart-with_name b.holds 
 -- ---- what isn't refused
 
 -- an item that isn't refused is ready, comes in its turn, and there is room for its commit and its steps
-pub record IsAdmitted (ordered : Bool) (ready : List Item) (commits : List WholeCommit) (item : Item) (steps : ℕ) : Type 0 where
-  pub ready_now : has_item ready item ≡ true
-  pub none_before : (if ordered then not_least (least_before ready item) else None) ≡ None
-  pub not_spent : (length commits == most_commits) ≡ false
-  pub not_kept : nat_lt most_steps (length (journal commits) + steps) ≡ false
+pub record IsAdmitted (b : BookView) (item : Item) (steps : ℕ) : Type 0 where
+  pub ready_now : has_item b.ready item ≡ true
+  pub none_before : (if b.ordered then not_least (least_before b.ready item) else None) ≡ None
+  pub not_spent : is_spent b ≡ false
+  pub not_kept : is_past_journal b steps ≡ false
 
 neither_refuses : (a b : Option CommitRefuse) → or_else a b ≡ None → (a ≡ None) × (b ≡ None)
 neither_refuses None b e = (refl, e)
@@ -99,16 +99,16 @@ ready_if : (ready : Bool) → not ready ≡ false → ready ≡ true
 ready_if true e = refl
 ready_if false e = absurd (cc)
 
-pub admitted : (ordered : Bool) (ready : List Item) (commits : List WholeCommit) (item : Item) (steps : ℕ) → refusal ordered ready commits item steps ≡ None → IsAdmitted ordered ready commits item steps
-admitted ordered ready commits item steps e =
-    let p = neither_refuses (only_if (not (has_item ready item)) NotReady) _ e in
-    let q = neither_refuses (if ordered then not_least (least_before ready item) else None) _ p.1 in
-    let r = neither_refuses (only_if (length commits == most_commits) Spent) _ q.1 in
+pub admitted : (b : BookView) (item : Item) (steps : ℕ) → refusal b item steps ≡ None → IsAdmitted b item steps
+admitted b item steps e =
+    let p = neither_refuses (only_if (not (has_item b.ready item)) NotReady) _ e in
+    let q = neither_refuses (if b.ordered then not_least (least_before b.ready item) else None) _ p.1 in
+    let r = neither_refuses (only_if (is_spent b) Spent) _ q.1 in
     record {
-      ready_now = ready_if (has_item ready item) (not_refused (not (has_item ready item)) NotReady p.0);
+      ready_now = ready_if (has_item b.ready item) (not_refused (not (has_item b.ready item)) NotReady p.0);
       none_before = q.0;
-      not_spent = not_refused (length commits == most_commits) Spent r.0;
-      not_kept = not_refused (nat_lt most_steps (length (journal commits) + steps)) Kept r.1;
+      not_spent = not_refused (is_spent b) Spent r.0;
+      not_kept = not_refused (is_past_journal b steps) Kept r.1;
     }
 
 no_least : (least : Option Item) → not_least least ≡ None → least ≡ None
@@ -119,9 +119,9 @@ in_turn_by : (ordered : Bool) (ready : List Item) (item : Item) → AreRising re
 in_turn_by true ready item r h n = ap (λ b. b && is_least ready item) h ∙ none_before ready item r (no_least (least_before ready item) n)
 in_turn_by false ready item r h n = ap (λ b. b && true) h
 
-pub may_commit_then : (b : BookView) (item : Item) (steps : ℕ) → IsLawfulBook b → refusal b.ordered b.ready b.commits item steps ≡ None → may_commit b.ordered b.ready item ≡ true
+pub may_commit_then : (b : BookView) (item : Item) (steps : ℕ) → IsLawfulBook b → refusal b item steps ≡ None → may_commit b.ordered b.ready item ≡ true
 may_commit_then b item steps l e =
-    let a = admitted b.ordered b.ready b.commits item steps e in
+    let a = admitted b item steps e in
     in_turn_by b.ordered b.ready item l.rising a.ready_now a.none_before
 
 -- ---- a commit
@@ -131,9 +131,9 @@ in_turn-append : (ordered : Bool) (first : List Item) (cs : List WholeCommit) (r
 in_turn-append ordered first [] ready c t m = (ap (λ r. may_commit ordered r c.item) t ∙ m, ap (λ r. ready_after r c.item c.outcome) t)
 in_turn-append ordered first (d ∷ ds) ready c t m = (t.0, in_turn-append ordered (ready_after first d.item d.outcome) ds ready c t.1 m)
 
-pub commit_lawful : (b : BookView) (worker iter : ℕ) (item : Item) (o : Outcome) → IsLawfulBook b → refusal b.ordered b.ready b.commits item (length o.steps) ≡ None → IsLawfulBook (commit b worker iter item o)
+pub commit_lawful : (b : BookView) (worker iter : ℕ) (item : Item) (o : Outcome) → IsLawfulBook b → refusal b item (length o.steps) ≡ None → IsLawfulBook (commit b worker iter item o)
 commit_lawful b worker iter item o l e =
-    let a = admitted b.ordered b.ready b.commits item (length o.steps) e in
+    let a = admitted b item (length o.steps) e in
     let c : WholeCommit = record { worker = worker; iter = iter; item = item; outcome = o } in
     let m = length-append b.commits (c ∷ []) in
     let n : length (journal (b.commits ++ c ∷ [])) ≡ length (journal b.commits) + length o.steps = ap length (journal-append b.commits c) ∙ length-append (journal b.commits) o.steps in
@@ -164,7 +164,7 @@ committed b worker iter item log pushes entered ready holds commits r e l h c =
     l ∙ ap (λ x. if has_item pushes item then x else without_item x item) e ∙ left_by b.ready item pushes (has_item pushes item) refl r ∙ sym (ready_after-pushes b.ready item log pushes) in
     λ i. record { ordered = b.ordered; first_ready = b.first_ready; ready = is i; holds = h i; commits = c i }
 
-pub committed_lawful : (b : BookView) (worker iter : ℕ) (item : Item) (log : List Step) (pushes entered ready : List Item) (holds : List Hold) (commits : List WholeCommit) → IsLawfulBook b → refusal b.ordered b.ready b.commits item (length log) ≡ None
+pub committed_lawful : (b : BookView) (worker iter : ℕ) (item : Item) (log : List Step) (pushes entered ready : List Item) (holds : List Hold) (commits : List WholeCommit) → IsLawfulBook b → refusal b item (length log) ≡ None
     → entered ≡ with_items b.ready pushes → ready ≡ (if has_item pushes item then entered else without_item entered item) → holds ≡ without_item_held b.holds item
     → commits ≡ b.commits ++ record { worker = worker; iter = iter; item = item; outcome = record { steps = log; pushes = pushes; withdrawn = [] } } ∷ []
     → IsLawfulBook (record b { ready = ready; holds = holds; commits = commits })

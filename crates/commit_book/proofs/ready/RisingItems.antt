@@ -27,9 +27,6 @@ before_then x y z e f = ap is_lt (item_cmp_total.trans x y z (is_less _ e) (is_l
 pub before_not_same : (x y : Item) → is_before x y ≡ true → same_item y x ≡ false
 before_not_same x y e = ap is_eq (item_cmp_total.antisymm y x ∙ ap ordering_reverse (is_less _ e))
 
-pub before_not_after : (x y : Item) → is_before x y ≡ true → is_before y x ≡ false
-before_not_after x y e = ap is_lt (item_cmp_total.antisymm y x ∙ ap ordering_reverse (is_less _ e))
-
 else_less : (r s : Ordering) → s ≡ ordering_reverse r → is_eq r ≡ false → is_lt s ≡ false → is_lt r ≡ true
 else_less Less s t e f = refl
 else_less Equal s t e f = absurd (cc)
