@@ -12,7 +12,7 @@ use Rattle.galois_run.specs.declared.run_faults.RunFault.{RunFault}
 use Rattle.galois_run.specs.declared.run_faults.RunFault.TheVariants.{BadInput, TooLarge, Spent, NoMemory}
 use Rattle.galois_run.specs.Inputs.{Inputs, main_of}
 use Rattle.galois_run.specs.RunFaults.{fault_of_input, FaultsWhere, Answers}
-use Rattle.galois_run.specs.commands.Flow.{IsFlowReport, IsFaultyFlow, IsUnfinishedFlow, flow_meaning}
+use Rattle.galois_run.specs.commands.Flow.{IsReportOf, IsFlowReport, IsFaultyFlow, IsUnfinishedFlow, flow_meaning}
 use Rattle.galois_run.proofs.meanings.FlowRuns.{ends_or_is_unfinished}
 
 abbrev Made : Type 0
@@ -124,13 +124,29 @@ spent_by inputs.NoMemory e = cc
 told_refusal : (bytes : List ℕ) (r : Result Network InputFault) (refused : InputFault) → r ≡ Err refused → Told bytes r → CallsFor bytes (Err refused) ⊎ (refused ≡ inputs.NoMemory)
 told_refusal bytes r refused e told = refusal bytes refused (subst (Told bytes) e told)
 
-pub is_faulty : {A : Type 0} (bytes : List ℕ) (r : Result Network InputFault) (refused : InputFault) (fault : RunFault) (line : ℕ) → r ≡ Err refused → Told bytes r → fault ≡ fault_of_input refused
-    → Err {T = A} fault ≡ Err (BadInput line) → IsFaultyFlow bytes line
-is_faulty bytes r refused fault line e told is same = faulty_by bytes refused line (told_refusal bytes r refused e told) (let here : fault ≡ BadInput line = cc in sym is ∙ here)
+-- what was made of a refusal tells that refusal's fault
+err_made : RunFault → Made
+err_made fault = Err fault
 
-pub is_large : {A : Type 0} (bytes : List ℕ) (r : Result Network InputFault) (refused : InputFault) (fault : RunFault) (what : What) → r ≡ Err refused → Told bytes r → fault ≡ fault_of_input refused
-    → Err {T = A} fault ≡ Err (TooLarge what) → IsTooLarge bytes what
-is_large bytes r refused fault what e told is same = large_by bytes refused what (told_refusal bytes r refused e told) (let here : fault ≡ TooLarge what = cc in sym is ∙ here)
+same_fault : (f g : RunFault) → err_made f ≡ err_made g → f ≡ g
+unfolding err_made
+same_fault f g e = cc
 
-pub not_spent : {A : Type 0} (refused : InputFault) (fault : RunFault) → fault ≡ fault_of_input refused → Err {T = A} fault ≡ Err Spent → ⊥
-not_spent refused fault is same = spent_by refused (let here : fault ≡ Spent = cc in sym is ∙ here)
+pub is_faulty : (bytes : List ℕ) (r : Result Network InputFault) (refused : InputFault) (fault : RunFault) (made : Made) (line : ℕ) → r ≡ Err refused → Told bytes r → fault ≡ fault_of_input refused
+    → made ≡ Err fault → made ≡ Err (BadInput line) → IsFaultyFlow bytes line
+unfolding err_made
+is_faulty bytes r refused fault made line e told is made_is same = faulty_by bytes refused line (told_refusal bytes r refused e told) (sym is ∙ same_fault fault (BadInput line) (sym made_is ∙ same))
+
+pub is_large : (bytes : List ℕ) (r : Result Network InputFault) (refused : InputFault) (fault : RunFault) (made : Made) (what : What) → r ≡ Err refused → Told bytes r → fault ≡ fault_of_input refused
+    → made ≡ Err fault → made ≡ Err (TooLarge what) → IsTooLarge bytes what
+unfolding err_made
+is_large bytes r refused fault made what e told is made_is same = large_by bytes refused what (told_refusal bytes r refused e told) (sym is ∙ same_fault fault (TooLarge what) (sym made_is ∙ same))
+
+pub not_spent : (refused : InputFault) (fault : RunFault) (made : Made) → fault ≡ fault_of_input refused → made ≡ Err fault → made ≡ Err Spent → ⊥
+unfolding err_made
+not_spent refused fault made is made_is same = spent_by refused (sym is ∙ same_fault fault Spent (sym made_is ∙ same))
+
+-- the report of a network that was read is that of its file
+pub is_reported : (bytes : List ℕ) (net : Net) (made : Made) → IsReadable bytes net → IfOk made (λ text. IsReportOf net text.items) → IfOk made (λ text. IsFlowReport bytes text.items)
+is_reported bytes net (Ok text) read report = record { net = net; is_read = read; is_report = report }
+is_reported bytes net (Err fault) read report = tt
