@@ -5,7 +5,7 @@ ghost use Rattle.std.specs.Prelude.{◌≡◌, ◌≢◌, ℕ, true};
 ghost use Rattle.gx_base.specs.declared.kinds.Choice.{Choice};
 ghost use Rattle.gx_base.specs.declared.kinds.Choice.TheVariants.{Precise, Simple, Rw};
 ghost use Rattle.gx_base.specs.declared.kinds.Kind.{Kind};
-ghost use Rattle.gx_base.specs.declared.kinds.Kind.TheVariants.{Set, Cells, Flow, Points, Domains};
+ghost use Rattle.gx_base.specs.declared.kinds.Kind.TheVariants.{Flow, Points, Domains};
 ghost use Rattle.gx_base.specs.Kinds.{kind_number};
 ghost use Rattle.gx_base.specs.ShippedTables.{IsShipped};
 ghost use Rattle.gx_base.specs.TableRows.{RowMap, row_of};
@@ -16,16 +16,6 @@ ghost use Rattle.cond_lattice.specs.Grades.{table_grade};
 ghost use Rattle.cond_lattice.specs.Simple.{strengthened};
 ghost use Rattle.kind_tables.specs.TablesOfKinds.{tables_of, shipped_rows};
 ghost use Rattle.kind_tables.specs.Classes.{HasNoGeneralRow};
-
-/// The tables that sets ship are valid.
-pub fn sets_are_valid()
-    ensures { (choice : Choice) → IsValid (kind_number Set) (shipped_rows Set choice) }
-{}
-
-/// The tables that cells ship are valid.
-pub fn cells_are_valid()
-    ensures { (choice : Choice) → IsValid (kind_number Cells) (shipped_rows Cells choice) }
-{}
 
 /// The tables that flow shards ship are valid.
 pub fn flows_are_valid()
