@@ -88,7 +88,7 @@ some_by : (o : Option ℤ) → not (int_eq (unwrap_or o (pos 0)) (pos 0)) ≡ is
 some_by None = refl
 some_by (Some x) = marked_by (int_eq x (pos 0))
   where
-    marked_by : (b : Bool) → not b ≡ is_some (if b then None else Some [])
+    marked_by : (b : Bool) → not b ≡ is_some {T = List ℤ} (if b then None else Some [])
     marked_by true = refl
     marked_by false = refl
 

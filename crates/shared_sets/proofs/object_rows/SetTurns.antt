@@ -1,4 +1,5 @@
 -- What bringing a number in, or taking it out, makes of a state.
+use mathlib.Core.Bool.{beq}
 use Rattle.std.specs.Prelude.{◌≡◌, ℤ, pos, Bool, true, false, not, Option, Some, None, List, [], ◌∷◌, is_some, if◌then◌else◌, refl}
 use Rattle.std.proofs.Common.{sym, ◌∙◌, ap}
 use Rattle.gx_base.specs.Meanings.{number_reply}
@@ -7,6 +8,12 @@ use Rattle.gx_base.specs.SetKind.{IsMark}
 use Rattle.gx_base.specs.States.{State, row_at, with_row}
 use Rattle.shared_sets.specs.SetRows.{row_if}
 use Rattle.shared_sets.specs.SetState.{turn_to}
+
+pub differ : (here there : Bool) → beq here there ≡ false → here ≡ there → ⊥
+differ true true n e = cc
+differ true false n e = cc
+differ false true n e = cc
+differ false false n e = cc
 
 absent : (o : Option (List ℤ)) → (is_some o ≡ true → ⊥) → same_content o None ≡ true
 absent None n = refl
