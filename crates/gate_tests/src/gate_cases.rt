@@ -9,14 +9,25 @@ use shared_sets::{Cells, SharedSet, cells_methods, set_methods};
 use std::alloc::Global;
 use std::test::Fail;
 
-const ITEM: Item = Item::new(0, 0, 0, 0);
+const ITEM: Item = Item {
+    k0: 0,
+    k1: 0,
+    k2: 0,
+    k3: 0,
+};
 
 /// A gate on a set that holds 5, or none.
 fn set_gate(alloc: Global, holds: bool) -> Result<Gate<SharedSet, ForwardScreen>, NoMemory> {
     let table = SharedSet::shipped(alloc, Kind::Set, Choice::Precise)?;
     shipped_tables_serve_gates::<SharedSet>();
     shipped_tables_are_not_general();
-    let mut gate = Gate::new(alloc, SharedSet::new(alloc), Kind::Set, table, ForwardScreen::new());
+    let mut gate = Gate::new(
+        alloc,
+        SharedSet::new(alloc),
+        Kind::Set,
+        table,
+        ForwardScreen::new(),
+    );
     if holds {
         let _reply = gate.call(9, 0, ITEM, Call::new(set_methods::ADD, 5, 0, 0, 0));
         if gate.mark() == 0 {

@@ -12,7 +12,12 @@ use shared_sets::{Cells, SharedSet, cells_methods, set_methods};
 use std::alloc::{AllocError, Global};
 use std::test::Fail;
 
-const ITEM: Item = Item::new(7, 0, 0, 0);
+const ITEM: Item = Item {
+    k0: 7,
+    k1: 0,
+    k2: 0,
+    k3: 0,
+};
 
 const KEYS: i64 = 6;
 
@@ -199,7 +204,14 @@ fn run<T: SeqType + Numbered, S: Screen<T>>(
         differing: 0,
     };
     for _ in 0..10_000 {
-        let agreed = step(alloc, gate, &mut model, &mut draws, &mut counts, first_method)?;
+        let agreed = step(
+            alloc,
+            gate,
+            &mut model,
+            &mut draws,
+            &mut counts,
+            first_method,
+        )?;
         let same = gate.live().len() == model.live_count() && same_numbers(gate.object(), &model);
         if !agreed || !same {
             counts.differing = counts.differing.saturating_add(1);

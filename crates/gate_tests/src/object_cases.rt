@@ -41,9 +41,15 @@ fn cells_are_as_their_calls_leave_them(rt: HostRuntime) -> Result<(), Fail> {
     let add = Call::new(cells_methods::ADD, 3, i64::MAX, 0, 0);
     let set = Call::new(cells_methods::SET, 3, 4, 0, 0);
     assert_eq!(rt; (cells.apply(add)?.p, cells.apply(set)?.p), (0, i64::MAX));
-    assert_eq!(rt; cells.apply(Call::new(cells_methods::READ, 3, 0, 0, 0))?.p, 4);
+    assert_eq!(rt;
+        cells.apply(Call::new(cells_methods::READ, 3, 0, 0, 0))?.p,
+        4
+    );
     assert!(rt; taken_back(&mut cells, set, Reply::new(i64::MAX, 0, 0, 0)));
-    assert_eq!(rt; (cells.value(3), cells.value(4), cells.observe(3)), (i64::MAX, 0, 0));
+    assert_eq!(rt;
+        (cells.value(3), cells.value(4), cells.observe(3)),
+        (i64::MAX, 0, 0)
+    );
     // A call of another kind of object does nothing.
     assert_eq!(rt; cells.apply(Call::new(set_methods::ADD, 3, 9, 0, 0))?.p, 0);
     assert_eq!(rt; cells.value(3), i64::MAX);

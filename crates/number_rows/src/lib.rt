@@ -1,6 +1,6 @@
 //! Numbers by key, 0 where none was written, over a hashed map. A row is a presence mark: once a key
 //! has its row, its number is written again without memory. A row that holds 0 is dead, and what it
-//! takes up is given back only by `tidy`. Start at `NumberRows`; `specs/Rows.antt` says which rows of
+//! takes up is given back only by `tidy`. Start at `NumberRows`; `specs/NumbersAsRows.antt` says which rows of
 //! an abstract state such numbers are.
 #![tactic(auto)]
 

@@ -98,9 +98,10 @@ impl SharedSet {
         ensures state { set_state self.new ≡ action_next (turn_to present) (set_state self.old) x }
         ensures kept { (made : Made) → IsTrue (has_set_room self.old made) → IsTrue (has_set_room self.new made) }
     {
-        if reply.p == 1 {
-            self.mark_again(x, present);
+        if reply.p != 1 {
+            return;
         }
+        self.mark_again(x, present);
     }
 }
 
