@@ -1,4 +1,4 @@
-ghost use Rattle.std.specs.Prelude.{◌≡◌, pos, not, position, slice_get};
+ghost use Rattle.std.specs.Prelude.{◌≡◌, pos, not, position};
 ghost use Rattle.gx_base.specs.TableRows.{row_of};
 ghost use Rattle.gate_core.specs.Entries.{made_of};
 ghost use Rattle.gate_core.specs.Scans.{log_ok};
@@ -56,7 +56,8 @@ impl<T: SeqType> Screen<T> for ForwardScreen {
 fn first_in_the_way(live: &[Entry], table: &Table, asked: &Entry) -> Option<usize>
     ensures { result ≡ position (λ held. not (log_ok (row_of table.now) held asked.now)) live.now }
 {
-    live.iter().position(|held| is_in_the_way(held, table, asked))
+    live.iter()
+        .position(|held| is_in_the_way(held, table, asked))
 }
 
 // Entries of one iteration are never in each other's way.

@@ -6,4 +6,3 @@
 mod forward;
 
 pub use forward::ForwardScreen;
-

@@ -16,4 +16,3 @@ mod set_shipping;
 
 pub use marked_set::SharedSet;
 pub use numbered_cells::Cells;
-
