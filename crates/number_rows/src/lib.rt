@@ -3,7 +3,7 @@
 //! takes up is given back only by `tidy`.
 //!
 //! `NumberRows::new(alloc)` has no rows; `rows.write(key, number)?` writes, `rows.value(key)` reads, `rows.has_row(key)`
-//! asks for the row, and `rows.rewrite(key, number)` writes in it. `specs/Rows.antt` says which rows of an abstract
+//! asks for the row, and `rows.rewrite(key, number)` writes in it. `specs/NumbersAsRows.antt` says which rows of an abstract
 //! state such numbers are.
 #![tactic(auto)]
 
