@@ -1,2 +1,1 @@
 pub mod flow_rows
-pub mod tables

@@ -4,18 +4,13 @@ use Rattle.gx_base.specs.FlowKind.{height_sort, excess_sort, flow_sort}
 use Rattle.gx_base.specs.RegisterDeeds as meaning
 use Rattle.flow_graph.specs.declared.uses.Quantity.{Quantity}
 use Rattle.flow_graph.specs.declared.uses.Quantity.TheVariants.{Height, Excess, Flow}
-use Rattle.flow_graph.specs.declared.uses.Deed.{Deed}
-use Rattle.flow_graph.specs.declared.uses.Deed.TheVariants.{Reads, Adds, Sets}
+use Rattle.kind_tables.specs.declared.register_rows.Deed.{Deed}
+use Rattle.kind_tables.specs.Deeds.{deed_of}
 
 abbrev pub sort_of : Quantity → ℕ
 sort_of Height = height_sort
 sort_of Excess = excess_sort
 sort_of Flow = flow_sort
-
-abbrev pub deed_of : Deed → meaning.Deed
-deed_of Reads = meaning.Reads
-deed_of Adds = meaning.Adds
-deed_of Sets = meaning.Sets
 
 abbrev pub use_from : Option (Quantity × Deed) → meaning.Use
 use_from None = meaning.Nothing

@@ -12,8 +12,9 @@ ghost use Rattle.flow_graph.specs.Uses.{sort_of};
 ghost use Rattle.flow_graph.specs.FlowState.{state_of, sorted, has_row_in, has_room_in, IsLeanShard};
 
 use crate::shipping::flow_table;
-use crate::uses::{Deed, Quantity, use_of};
+use crate::uses::{Quantity, use_of};
 use gx_base::{Call, Choice, Kind, NoMemory, Reply, SeqType, Table};
+use kind_tables::register_rows::Deed;
 use number_rows::NumberRows;
 use std::alloc::Global;
 

@@ -3,6 +3,8 @@ ghost use Rattle.std.specs.Prelude.{◌≡◌};
 ghost use Rattle.gx_base.specs.FlowKind.{flow_use};
 ghost use Rattle.flow_graph.specs.Uses.{sort_of, use_from};
 
+use kind_tables::register_rows::Deed;
+
 /// Reads the height of a node.
 pub const HEIGHT: u32 = 16;
 
@@ -45,14 +47,6 @@ impl Quantity {
             Quantity::Flow => 2,
         }
     }
-}
-
-/// What a method does with a number.
-#[derive(Clone, Copy, Drop)]
-pub(crate) enum Deed {
-    Reads,
-    Adds,
-    Sets,
 }
 
 /// The number that a method uses, and how. `None` for a method of another kind of object.

@@ -1,3 +1,9 @@
 -- What the proofs of other crates may use of this one.
+pub use Rattle.kind_tables.proofs.swapping.Effects.{SwapsBy, effect_in}
+pub use Rattle.kind_tables.proofs.swapping.ActSwaps.{IsNear, Pair, two_apart_rows, two_turns, turn_first, turn_second, pair_swaps}
+pub use Rattle.kind_tables.proofs.swapping.Validity.{TableLaws, valid_from}
+pub use Rattle.kind_tables.proofs.kinds.TableFacts.{TableFacts, NoneIsFalse, keeps, IsSilent, simple-below, tables-SuitKind}
+pub use Rattle.kind_tables.proofs.kinds.RegisterLaws.{register_table, register_facts, register_silent}
+pub use Rattle.kind_tables.proofs.kinds.Fills.{methods_end, filled_to, filled-none, filled-more, filled-row, filled-all}
 pub use Rattle.kind_tables.proofs.kinds.AllKinds.{tables_of-SuitKind}
-pub use Rattle.kind_tables.proofs.classes.GradeLaws.{shipped-table-none, class-none, below-none}
+pub use Rattle.kind_tables.proofs.classes.GradeLaws.{shipped-table-none, chosen-none, shipped-none, class-none, below-none}

@@ -1,7 +1,6 @@
 pub mod TableFacts
-pub mod SetLaws
+pub mod Fills
 pub mod RegisterLaws
-pub mod CellsLaws
 pub mod FlowLaws
 pub mod NearestPoints
 pub mod PointLaws

@@ -1,7 +1,6 @@
 pub mod PairConditions
-pub mod SetTables
 pub mod RegisterTables
-pub mod CellsTables
+pub mod Deeds
 pub mod FlowTables
 pub mod PointTables
 pub mod DomainTables

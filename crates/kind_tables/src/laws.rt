@@ -1,11 +1,11 @@
-//! Laws of the shipped tables, over their definitions alone. A caller of one of these empty functions
-//! may use what it ensures.
+//! Laws of the shipped tables that stand here, over their definitions alone. A caller of one of these empty
+//! functions may use what it ensures. The rows of a kind whose tables stand elsewhere are false ones here.
 
 ghost use Rattle.std.specs.Prelude.{◌≡◌, ◌≢◌, ℕ, true};
 ghost use Rattle.gx_base.specs.declared.kinds.Choice.{Choice};
 ghost use Rattle.gx_base.specs.declared.kinds.Choice.TheVariants.{Precise, Simple, Rw};
 ghost use Rattle.gx_base.specs.declared.kinds.Kind.{Kind};
-ghost use Rattle.gx_base.specs.declared.kinds.Kind.TheVariants.{Set, Cells, Flow, Points, Domains};
+ghost use Rattle.gx_base.specs.declared.kinds.Kind.TheVariants.{Flow, Points, Domains};
 ghost use Rattle.gx_base.specs.Kinds.{kind_number};
 ghost use Rattle.gx_base.specs.ShippedTables.{IsShipped};
 ghost use Rattle.gx_base.specs.TableRows.{RowMap, row_of};
@@ -16,16 +16,6 @@ ghost use Rattle.cond_lattice.specs.Grades.{table_grade};
 ghost use Rattle.cond_lattice.specs.Simple.{strengthened};
 ghost use Rattle.kind_tables.specs.TablesOfKinds.{tables_of, shipped_rows};
 ghost use Rattle.kind_tables.specs.Classes.{HasNoGeneralRow};
-
-/// The tables that sets ship are valid.
-pub fn sets_are_valid()
-    ensures { (choice : Choice) → IsValid (kind_number Set) (shipped_rows Set choice) }
-{}
-
-/// The tables that cells ship are valid.
-pub fn cells_are_valid()
-    ensures { (choice : Choice) → IsValid (kind_number Cells) (shipped_rows Cells choice) }
-{}
 
 /// The tables that flow shards ship are valid.
 pub fn flows_are_valid()
@@ -42,7 +32,7 @@ pub fn domains_are_valid()
     ensures { (choice : Choice) → IsValid (kind_number Domains) (shipped_rows Domains choice) }
 {}
 
-/// In every shipped table the rows of a pair of methods that aren't both the kind's are false.
+/// In every table that stands here the rows of a pair of methods that aren't both the kind's are false.
 pub fn shipped_tables_keep_to_kinds()
     ensures { (kind : Kind) (choice : Choice) → KeepsToKind (kind_number kind) (shipped_rows kind choice) }
 {}
@@ -58,7 +48,7 @@ pub fn shipped_tables_are_in_order()
     ensures readers { (kind : Kind) → AreBelow (shipped_rows kind Rw) (shipped_rows kind Simple) }
 {}
 
-/// Of the shipped tables only the precise one of domain books has a GENERAL row.
+/// Of the tables that stand here only the precise one of domain books has a GENERAL row.
 pub fn only_precise_domains_are_general()
     ensures rows { (kind : Kind) (choice : Choice) → (kind ≡ Domains → choice ≢ Precise) → HasNoGeneralRow (shipped_rows kind choice) }
     ensures class { (kind : Kind) (choice : Choice) → (kind ≡ Domains → choice ≢ Precise) → table_grade (kind_number kind) (shipped_rows kind choice) ≢ General }

@@ -1,8 +1,12 @@
-//! The tables of conditions that each kind of object ships, and what is proved of them.
+//! The tables of conditions that kinds of objects ship, and what is proved of them.
 //!
-//! `specs/` has one file a kind, and `specs/TablesOfKinds.antt` picks by kind. There is nothing to run:
-//! `laws` says of every shipped table that it is valid, how its rows stand to those of the kind's other
-//! tables, and which of them a scan of earlier calls can serve.
+//! `specs/` has one file a kind, and `specs/TablesOfKinds.antt` picks by kind; a kind whose type has its tables in
+//! a crate of its own is not among them. `laws` says of every table that stands here that it is valid, how its
+//! rows stand to those of the kind's other tables, and which of them a scan of earlier calls can serve.
+//!
+//! To run there is what the types' crates share: `pair_conditions` and `register_rows` make rows.
 #![tactic(auto)]
 
 pub mod laws;
+pub mod pair_conditions;
+pub mod register_rows;

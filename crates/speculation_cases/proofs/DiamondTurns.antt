@@ -8,7 +8,8 @@ use Rattle.gx_base.specs.Steps.{next_state, reply_to, inverse, observed}
 use Rattle.gx_base.specs.TableRows.{RowMap, row_of}
 use Rattle.gx_base.specs.Tables.{Rows}
 use Rattle.gx_base.specs.Worklists.{item_cmp, has_item, without_item, with_item, without_items, with_items, is_least}
-use Rattle.kind_tables.specs.TablesOfKinds.{shipped_rows}
+use Rattle.gx_base.specs.ShippedTables.{rows_chosen}
+use Rattle.kind_tables.specs.FlowTables.{flow_tables}
 use Rattle.preflow_push.specs.Discharge.{discharge_operator}
 use Rattle.speculation.specs.ScheduledRuns.{begun, scheduled, drain, drain_worker, drained}
 use Rattle.speculation_cases.specs.Beginnings.{Written, HasPreciseRows}
@@ -38,7 +39,7 @@ abbrev called_1 : ℤ → Given
 called_1 x = record { worker = 1; way = None; reply = number_reply x }
 
 abbrev flow_rows : Rows
-flow_rows = shipped_rows Flow Precise
+flow_rows = rows_chosen flow_tables Precise
 
 abbrev given_six : List Given
 given_six =
@@ -66,7 +67,7 @@ right_six table h = (
   ),
 )
 
-pub drained_diamond : (table : RowMap) → HasPreciseRows Flow table → (drained (discharge_operator net) (diamond table) 2 (alternating 3)).trace ≡ turns_with_drain
+pub drained_diamond : (table : RowMap) → HasPreciseRows flow_tables table → (drained (discharge_operator net) (diamond table) 2 (alternating 3)).trace ≡ turns_with_drain
 unfolding next_state reply_to inverse observed item_cmp has_item without_item with_item without_items with_items is_least drained drain drain_worker scheduled
 drained_diamond table h =
     ap (λ r. (drain r 2).trace) (given_run flow_rows (discharge_operator net) given_six [] (begun (diamond table)) (right_six table (λ i first second. h first second i)))
@@ -199,7 +200,7 @@ right_both table h = (
   ),
 )
 
-pub both_in_turn : (table : RowMap) → HasPreciseRows Flow table → (scheduled (discharge_operator net) (begun (diamond table)) (alternating 50)).trace ≡ turns_of_both
+pub both_in_turn : (table : RowMap) → HasPreciseRows flow_tables table → (scheduled (discharge_operator net) (begun (diamond table)) (alternating 50)).trace ≡ turns_of_both
 unfolding next_state reply_to inverse observed item_cmp has_item without_item with_item without_items with_items is_least scheduled
 both_in_turn table h =
     ap (λ r. r.trace) (given_run flow_rows (discharge_operator net) given_both (alternating 30) (begun (diamond table)) (right_both table (λ i first second. h first second i)))

@@ -8,7 +8,8 @@ use Rattle.gx_base.specs.Steps.{next_state, reply_to, inverse, observed}
 use Rattle.gx_base.specs.TableRows.{RowMap, row_of}
 use Rattle.gx_base.specs.Tables.{Rows}
 use Rattle.gx_base.specs.Worklists.{item_cmp, has_item, without_item, with_item, without_items, with_items, is_least}
-use Rattle.kind_tables.specs.TablesOfKinds.{shipped_rows}
+use Rattle.gx_base.specs.ShippedTables.{rows_chosen}
+use Rattle.shared_sets.specs.CellsTables.{cells_tables}
 use Rattle.speculation.specs.ScheduledRuns.{begun, scheduled}
 use Rattle.speculation_cases.specs.Beginnings.{Written, HasPreciseRows}
 use Rattle.speculation_cases.specs.SmallConflict.{setters, two_setters, setters_schedule, turns_of_setters}
@@ -23,7 +24,7 @@ abbrev set_1 : Written
 set_1 = ((0, pos 0), pos 1) ∷ []
 
 abbrev cell_rows : Rows
-cell_rows = shipped_rows Cells Precise
+cell_rows = rows_chosen cells_tables Precise
 
 abbrev given : List Given
 given =
@@ -93,6 +94,6 @@ right table h = (
   ),
 )
 
-pub setters_in_turn : (table : RowMap) → HasPreciseRows Cells table → (scheduled setters (begun (two_setters table)) setters_schedule).trace ≡ turns_of_setters
+pub setters_in_turn : (table : RowMap) → HasPreciseRows cells_tables table → (scheduled setters (begun (two_setters table)) setters_schedule).trace ≡ turns_of_setters
 unfolding next_state reply_to inverse observed item_cmp has_item without_item with_item without_items with_items is_least scheduled
 setters_in_turn table h = ap (λ r. r.trace) (given_run cell_rows setters given [] (begun (two_setters table)) (right table (λ i first second. h first second i)))

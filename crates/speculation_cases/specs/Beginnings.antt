@@ -5,10 +5,10 @@ use Rattle.gx_base.specs.declared.items.Item.{Item}
 use Rattle.gx_base.specs.declared.kinds.Kind.{Kind}
 use Rattle.gx_base.specs.declared.kinds.Choice.TheVariants.{Precise}
 use Rattle.gx_base.specs.Kinds.{kind_number}
+use Rattle.gx_base.specs.ShippedTables.{KindTables, rows_chosen}
 use Rattle.gx_base.specs.States.{State, with_number}
 use Rattle.gx_base.specs.Outcomes.{nothing_done}
 use Rattle.gx_base.specs.TableRows.{RowMap, row_of}
-use Rattle.kind_tables.specs.TablesOfKinds.{shipped_rows}
 use Rattle.gate_core.specs.Views.{GateView}
 use Rattle.commit_book.specs.BookViews.{new_book}
 use Rattle.speculation.specs.Events.{Event, Turn}
@@ -23,9 +23,9 @@ abbrev pub written : Kind → Written → State
 written kind [] = record { kind = kind_number kind; rows = finite.empty }
 written kind (w ∷ ws) = with_number (written kind ws) w.0 w.1
 
--- the table has the precise rows of the kind
-abbrev pub HasPreciseRows : Kind → RowMap → Type 0
-HasPreciseRows kind table = (first second : ℕ) → row_of table first second ≡ shipped_rows kind Precise first second
+-- the table has the precise ones of these rows
+abbrev pub HasPreciseRows : KindTables → RowMap → Type 0
+HasPreciseRows tables table = (first second : ℕ) → row_of table first second ≡ rows_chosen tables Precise first second
 
 abbrev pub new_gate : Kind → RowMap → Written → GateView
 new_gate kind table ws = record { kind = kind_number kind; table = table; state = written kind ws; done = []; live = []; mark = 0 }

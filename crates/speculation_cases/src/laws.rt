@@ -2,8 +2,9 @@
 
 ghost use Rattle.std.specs.Prelude.{◌≡◌};
 ghost use Rattle.gx_base.specs.TableRows.{RowMap};
-ghost use Rattle.gx_base.specs.declared.kinds.Kind.TheVariants.{Cells, Flow};
+ghost use Rattle.kind_tables.specs.FlowTables.{flow_tables};
 ghost use Rattle.preflow_push.specs.Discharge.{discharge_operator};
+ghost use Rattle.shared_sets.specs.CellsTables.{cells_tables};
 ghost use Rattle.speculation.specs.Premises.{IsNew};
 ghost use Rattle.speculation.specs.ScheduledRuns.{begun, scheduled, drained};
 ghost use Rattle.speculation_cases.specs.Beginnings.{HasPreciseRows};
@@ -12,23 +13,23 @@ ghost use Rattle.speculation_cases.specs.SmallConflict.{setters, two_setters, se
 
 /// The machines of these cases are new ones, so every law of the speculative machine speaks of them.
 pub fn the_cases_begin_new()
-    ensures diamond { (table : RowMap) → HasPreciseRows Flow table → IsNew (discharge_operator net) (diamond table) }
-    ensures setters { (table : RowMap) → HasPreciseRows Cells table → IsNew setters (two_setters table) }
+    ensures diamond { (table : RowMap) → HasPreciseRows flow_tables table → IsNew (discharge_operator net) (diamond table) }
+    ensures setters { (table : RowMap) → HasPreciseRows cells_tables table → IsNew setters (two_setters table) }
 {}
 
 /// An ordered loop of two bodies that read one cell and then set it: a conflict that names, one that
 /// undoes, and one of an iteration without entries.
 pub fn two_setters_in_conflict()
-    ensures { (table : RowMap) → HasPreciseRows Cells table → (scheduled setters (begun (two_setters table)) setters_schedule).trace ≡ turns_of_setters }
+    ensures { (table : RowMap) → HasPreciseRows cells_tables table → (scheduled setters (begun (two_setters table)) setters_schedule).trace ≡ turns_of_setters }
 {}
 
 /// The diamond of four nodes, with two workers that take turns: forty turns, after which nothing is
 /// ready. Both gains of node 4 are admitted beside each other.
 pub fn the_diamond_with_two_workers()
-    ensures { (table : RowMap) → HasPreciseRows Flow table → (scheduled (discharge_operator net) (begun (diamond table)) (alternating 50)).trace ≡ turns_of_both }
+    ensures { (table : RowMap) → HasPreciseRows flow_tables table → (scheduled (discharge_operator net) (begun (diamond table)) (alternating 50)).trace ≡ turns_of_both }
 {}
 
 /// The same, cut off after six turns: the calls of both workers are undone, those of worker 0 first.
 pub fn the_drained_diamond()
-    ensures { (table : RowMap) → HasPreciseRows Flow table → (drained (discharge_operator net) (diamond table) 2 (alternating 3)).trace ≡ turns_with_drain }
+    ensures { (table : RowMap) → HasPreciseRows flow_tables table → (drained (discharge_operator net) (diamond table) 2 (alternating 3)).trace ≡ turns_with_drain }
 {}

@@ -5,6 +5,7 @@ use Rattle.gx_base.specs.declared.kinds.Kind.TheVariants.{Flow as flow}
 use Rattle.gx_base.specs.Kinds.{kind_number}
 use Rattle.gx_base.specs.States.{State, row_cmp, rows_with, number_at, with_number}
 use Rattle.number_rows.specs.NumbersAsRows.{number_in}
+use Rattle.number_rows.proofs.CallerLemmas.{put_at}
 use Rattle.flow_graph.specs.declared.uses.Quantity.{Quantity}
 use Rattle.flow_graph.specs.declared.uses.Quantity.TheVariants.{Height, Excess, Flow}
 use Rattle.flow_graph.specs.Uses.{sort_of}
@@ -23,9 +24,6 @@ read_excess h e f q k kk x y is ek ey r = ey ∙ r ∙ ap (number_in e) ek ∙ s
 
 pub read_flow : (h e f : Numbers) (q : Quantity) (k kk x y : ℤ) → q ≡ Flow → kk ≡ k → y ≡ x → x ≡ number_in f kk → y ≡ number_at (with_rows (flow_rows h e f)) (sort_of q, k)
 read_flow h e f q k kk x y is ek ey r = ey ∙ r ∙ ap (number_in f) ek ∙ sym (number-flows h e f k) ∙ ap (λ s. number_at (with_rows (flow_rows h e f)) (s, k)) (sym (ap sort_of is))
-
-put_at : (m n : Numbers) (k kk x xx : ℤ) → kk ≡ k → xx ≡ x → n ≡ map.insert m kk xx → n ≡ map.insert m k x
-put_at m n k kk x xx ek ex w = w ∙ ap (λ z. map.insert m z xx) ek ∙ ap (λ z. map.insert m k z) ex
 
 -- a number that is written
 pub wrote_height : (h e f n : Numbers) (q : Quantity) (k kk x xx : ℤ) → q ≡ Height → kk ≡ k → xx ≡ x → n ≡ map.insert h kk xx → with_rows (flow_rows n e f) ≡ with_number (with_rows (flow_rows h e f)) (sort_of q, k) x

@@ -5,16 +5,14 @@ use Rattle.gx_base.specs.declared.kinds.Kind.TheVariants.{Set, Cells, Flow, Poin
 use Rattle.gx_base.specs.Kinds.{kind_number}
 use Rattle.gx_base.specs.ShippedTables.{SuitKind}
 use Rattle.kind_tables.specs.TablesOfKinds.{tables_of}
-use Rattle.kind_tables.proofs.kinds.TableFacts.{TableFacts, IsSilent, tables-SuitKind}
-use Rattle.kind_tables.proofs.kinds.SetLaws.{set_facts, set_tables-silent}
-use Rattle.kind_tables.proofs.kinds.CellsLaws.{cells_facts, cells_tables-silent}
+use Rattle.kind_tables.proofs.kinds.TableFacts.{TableFacts, IsSilent, tables-SuitKind, false_facts}
 use Rattle.kind_tables.proofs.kinds.FlowLaws.{flow_facts, flow_tables-silent}
 use Rattle.kind_tables.proofs.kinds.PointLaws.{point_facts, point_tables-silent}
 use Rattle.kind_tables.proofs.kinds.DomainLaws.{domain_facts}
 
 pub facts_of : (kind : Kind) → TableFacts (kind_number kind) (tables_of kind)
-facts_of Set = set_facts
-facts_of Cells = cells_facts
+facts_of Set = false_facts 0
+facts_of Cells = false_facts 1
 facts_of Flow = flow_facts
 facts_of Points = point_facts
 facts_of Domains = domain_facts
@@ -24,8 +22,8 @@ tables_of-SuitKind kind = tables-SuitKind (kind_number kind) (tables_of kind) (f
 
 -- but for domain books, whose state function is looked at, the precise rows name none of the later call
 pub precise-silent : (kind : Kind) → kind ≢ Domains → IsSilent (tables_of kind).precise
-precise-silent Set n = set_tables-silent
-precise-silent Cells n = cells_tables-silent
-precise-silent Flow n = flow_tables-silent
-precise-silent Points n = point_tables-silent
-precise-silent Domains n = absurd (n refl)
+precise-silent Set n first second = refl
+precise-silent Cells n first second = refl
+precise-silent Flow n first second = flow_tables-silent first second
+precise-silent Points n first second = point_tables-silent first second
+precise-silent Domains n first second = absurd (n refl)

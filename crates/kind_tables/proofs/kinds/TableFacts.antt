@@ -13,6 +13,7 @@ use Rattle.gx_base.specs.Tables.{Rows, IsValid, KeepsToKind}
 use Rattle.cond_lattice.specs.Simple.{strengthened}
 use Rattle.cond_lattice.proofs.CallerLemmas.{is_strengthened}
 use Rattle.kind_tables.specs.PairConditions.{rows_by}
+use Rattle.kind_tables.specs.TablesOfKinds.{false_tables}
 
 -- what a kind shows of its tables, by its number
 pub record TableFacts (kind : ℕ) (tables : KindTables) : Type 0 where
@@ -21,6 +22,16 @@ pub record TableFacts (kind : ℕ) (tables : KindTables) : Type 0 where
   pub strengthened : (first second : ℕ) → tables.simple first second ≡ strengthened (tables.precise first second)
   pub readers_below : AreBelow tables.reader_writer tables.simple
   pub readers_keep_to_kind : KeepsToKind kind tables.reader_writer
+
+-- false rows are in order for every kind
+pub false_facts : (kind : ℕ) → TableFacts kind false_tables
+false_facts kind = record {
+  valid = record { swaps = λ s a b e h fa fb t. absurd (cc); sees_first = λ s a b e h fa fb t l. absurd (cc); sees_second = λ s a b e h fa fb t l. absurd (cc) };
+  keeps_to_kind = λ first second f. refl;
+  strengthened = λ first second. refl;
+  readers_below = λ first second. False-IsBelow _;
+  readers_keep_to_kind = λ first second f. refl;
+}
 
 -- no row names the state function of the later call
 abbrev pub IsSilent : Rows → Type 0

@@ -4,6 +4,8 @@ use Rattle.std.proofs.Common.{sym, ◌∙◌, ap, subst}
 use Rattle.std.specs.Ordering.{int_cmp, int_eq}
 use Rattle.std.specs.Cmp.{int_cmp_total, int_eq_equiv}
 use Rattle.std.specs.FinMap as map
+use Rattle.number_rows.specs.declared.rows.NumberRows.{NumberRows}
+use Rattle.number_rows.specs.NumberRows.{rows_of}
 
 -- the key that is written has a row, and a row that is there stays
 pub contains_key-insert : (m : map.FinMap int_cmp ℤ) (k x q : ℤ) → IsTrue (map.contains_key m q) → IsTrue (map.contains_key (map.insert m k x) q)
@@ -20,3 +22,17 @@ contains_key-inserted m k x = subst (λ o. IsTrue (is_some o)) (sym (map.get-ins
 pub kept_after_write : {T E : Type 0} (r : Result T E) (m n : map.FinMap int_cmp ℤ) (k x : ℤ) → OnOk r (n ≡ map.insert m k x) → OnErr r (n ≡ m) → (q : ℤ) → IsTrue (map.contains_key m q) → IsTrue (map.contains_key n q)
 kept_after_write (Ok t) m n k x ok err q h = subst (λ l. IsTrue (map.contains_key l q)) (sym ok) (contains_key-insert m k x q h)
 kept_after_write (Err e) m n k x ok err q h = subst (λ l. IsTrue (map.contains_key l q)) (sym err) h
+
+-- each row stays
+abbrev pub KeepsRows : NumberRows → NumberRows → Type 0
+KeepsRows old new = (q : ℤ) → IsTrue (map.contains_key (rows_of old) q) → IsTrue (map.contains_key (rows_of new) q)
+
+-- where the key and the number were written as bits
+pub put_at : (m n : map.FinMap int_cmp ℤ) (k kk x xx : ℤ) → kk ≡ k → xx ≡ x → n ≡ map.insert m kk xx → n ≡ map.insert m k x
+put_at m n k kk x xx ek ex w = w ∙ ap (λ z. map.insert m z xx) ek ∙ ap (λ z. map.insert m k z) ex
+
+pub wrote_there : (m n : map.FinMap int_cmp ℤ) (k kk x : ℤ) → kk ≡ k → n ≡ map.insert m kk x → IsTrue (map.contains_key n k)
+wrote_there m n k kk x e w = subst (λ l. IsTrue (map.contains_key l k)) (sym (w ∙ ap (λ z. map.insert m z x) e)) (contains_key-inserted m k x)
+
+pub rewrote_kept : (m n : map.FinMap int_cmp ℤ) (k x : ℤ) → n ≡ map.insert m k x → (q : ℤ) → IsTrue (map.contains_key m q) → IsTrue (map.contains_key n q)
+rewrote_kept m n k x w q h = subst (λ l. IsTrue (map.contains_key l q)) (sym w) (contains_key-insert m k x q h)

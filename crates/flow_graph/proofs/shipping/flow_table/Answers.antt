@@ -3,25 +3,25 @@ use Rattle.gx_base.specs.FlowKind.{flow_first}
 use Rattle.gx_base.specs.ShippedTables.{rows_chosen}
 use Rattle.gx_base.specs.TableRows.{row_of}
 use Rattle.gx_base.specs.declared.kinds.Kind.TheVariants.{Flow}
-use Rattle.kind_tables.proofs.CallerLemmas.{tables_of-SuitKind}
+use Rattle.gx_base.specs.Kinds.{kind_number}
+use Rattle.kind_tables.proofs.CallerLemmas.{tables_of-SuitKind, methods_end, filled_to, filled-none, filled-more, filled-row, filled-all}
 use Rattle.kind_tables.specs.FlowTables.{flow_tables}
-use Rattle.flow_graph.proofs.tables.Fills.{flow_end, filled_to, filled-none, filled-more, filled-row, filled-all}
 use Rattle.flow_graph.proofs.shipping.flow_table.Goals as goal
 
 pub loop-first-init : goal.loop-first-init
-loop-first-init c = λ m n. ap (λ t. row_of t m n) c.blank-table.ensures ∙ filled-none (rows_chosen flow_tables c.args.choice) m n
+loop-first-init c = λ m n. ap (λ t. row_of t m n) c.blank-table.ensures ∙ filled-none (kind_number Flow) (rows_chosen flow_tables c.args.choice) m n
 
 pub loop-second-preserved : goal.loop-second-preserved
 loop-second-preserved c = λ m n.
     ap (λ t. row_of t m n) c.in_ok-put.ensures.ok
-    ∙ filled-more (rows_chosen flow_tables c.args.choice) c.loop-second.table c.loop-first.first c.loop-second.second _ (omega arith) (omega arith) (omega arith) c.in_ok-cond.ensures c.loop-second.invariant m n
+    ∙ filled-more (kind_number Flow) (rows_chosen flow_tables c.args.choice) c.loop-second.table c.loop-first.first c.loop-second.second _ (omega arith) (omega arith) (omega arith) c.in_ok-cond.ensures c.loop-second.invariant m n
 
 pub loop-first-preserved : goal.loop-first-preserved
 loop-first-preserved c = λ m n.
-    let e : c.loop-second.second ≡ flow_end = omega arith in
-    c.loop-second.invariant m n ∙ ap (λ s. filled_to (rows_chosen flow_tables c.args.choice) c.loop-first.first s m n) e ∙ filled-row (rows_chosen flow_tables c.args.choice) c.loop-first.first m n
+    let e : c.loop-second.second ≡ methods_end (kind_number Flow) = omega arith in
+    c.loop-second.invariant m n ∙ ap (λ s. filled_to (kind_number Flow) (rows_chosen flow_tables c.args.choice) c.loop-first.first s m n) e ∙ filled-row (kind_number Flow) (rows_chosen flow_tables c.args.choice) c.loop-first.first m n
 
 pub returns : goal.returns
 returns c = λ m n.
-    let e : c.loop-first.first ≡ flow_end = omega arith in
-    c.loop-first.invariant m n ∙ ap (λ f. filled_to (rows_chosen flow_tables c.args.choice) f flow_first m n) e ∙ filled-all (rows_chosen flow_tables c.args.choice) ((tables_of-SuitKind Flow).keeps_to_kind c.args.choice) m n
+    let e : c.loop-first.first ≡ methods_end (kind_number Flow) = omega arith in
+    c.loop-first.invariant m n ∙ ap (λ f. filled_to (kind_number Flow) (rows_chosen flow_tables c.args.choice) f flow_first m n) e ∙ filled-all (kind_number Flow) (rows_chosen flow_tables c.args.choice) ((tables_of-SuitKind Flow).keeps_to_kind c.args.choice) m n

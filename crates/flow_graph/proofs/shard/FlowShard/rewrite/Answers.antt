@@ -1,8 +1,9 @@
 use Rattle.std.proofs.Common.{w64}
 use Rattle.std.proofs.lemmas.Int.{to_z-of_z}
 use Rattle.number_rows.specs.NumberRows.{rows_of}
+use Rattle.number_rows.proofs.CallerLemmas.{rewrote_kept}
 use Rattle.flow_graph.proofs.flow_rows.Writes.{wrote_height, wrote_excess, wrote_flow}
-use Rattle.flow_graph.proofs.flow_rows.Rooms.{heights_kept, excesses_kept, flows_kept, rewrote_kept}
+use Rattle.flow_graph.proofs.flow_rows.Rooms.{heights_kept, excesses_kept, flows_kept}
 use Rattle.flow_graph.proofs.shard.FlowShard.rewrite.Goals as goal
 
 pub returns-in-Height-clause-state : goal.returns-in-Height-clause-state

@@ -2,9 +2,9 @@ use Rattle.std.proofs.Common.{w64}
 use Rattle.std.proofs.lemmas.Int.{to_z-of_z}
 use Rattle.std.proofs.lemmas.Result.{on_ok_weaker}
 use Rattle.number_rows.specs.NumberRows.{rows_of}
-use Rattle.number_rows.proofs.CallerLemmas.{kept_after_write}
+use Rattle.number_rows.proofs.CallerLemmas.{kept_after_write, wrote_there}
 use Rattle.flow_graph.proofs.flow_rows.Writes.{wrote_height, wrote_excess, wrote_flow}
-use Rattle.flow_graph.proofs.flow_rows.Rooms.{heights_kept, excesses_kept, flows_kept, wrote_there}
+use Rattle.flow_graph.proofs.flow_rows.Rooms.{heights_kept, excesses_kept, flows_kept}
 use Rattle.flow_graph.proofs.shard.FlowShard.write.Goals as goal
 
 pub returns-in-Height-clause-ok : goal.returns-in-Height-clause-ok

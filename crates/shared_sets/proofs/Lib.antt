@@ -1,0 +1,2 @@
+pub mod object_rows
+pub mod tables

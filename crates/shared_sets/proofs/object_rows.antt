@@ -1,0 +1,3 @@
+pub mod SetRowLaws
+pub mod SetTurns
+pub mod CellRowLaws

@@ -1,0 +1,10 @@
+pub mod SetTables
+pub mod SetValidity
+pub mod SetMethods
+pub mod SetRows
+pub mod SetState
+pub mod CellsTables
+pub mod CellsValidity
+pub mod CellsMethods
+pub mod CellsState
+pub mod SuitedTables
