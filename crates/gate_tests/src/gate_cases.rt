@@ -99,14 +99,16 @@ fn gate_cells_add(rt: HostRuntime) -> Result<(), Fail> {
     assert!(rt; adds(&mut gate, 1, 7));
     assert_eq!(rt; gate.object().value(3), 12);
     assert!(rt; undoes(&mut gate, 0, 5));
-    assert_eq!(rt; (gate.object().value(3), gate.live().len()), (7, 1));
+    assert_eq!(rt; gate.object().value(3), 7);
+    assert_eq!(rt; gate.live().len(), 1);
     assert!(rt; gate.undo_last(0, 0).is_none());
     let first = gate.mark() == 0;
     if first {
         gate.release(1, 0, 0);
     }
     assert!(rt; first);
-    assert_eq!(rt; (gate.done().len(), gate.mark()), (1, 1));
+    assert_eq!(rt; gate.done().len(), 1);
+    assert_eq!(rt; gate.mark(), 1);
     assert_eq!(rt; gate.object().value(3), 7);
     Ok(())
 }

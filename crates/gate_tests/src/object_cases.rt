@@ -23,10 +23,12 @@ fn a_set_is_as_its_calls_leave_it(rt: HostRuntime) -> Result<(), Fail> {
     let remove = Call::new(set_methods::REMOVE, 3, 0, 0, 0);
     let yes = Reply::new(1, 0, 0, 0);
     let no = Reply::new(0, 0, 0, 0);
-    assert_eq!(rt; (set.apply(add)?.p, set.apply(add)?.p), (1, 0));
+    assert_eq!(rt; set.apply(add)?.p, 1);
+    assert_eq!(rt; set.apply(add)?.p, 0);
     assert!(rt; set.has(3) && !set.has(4));
     assert!(rt; taken_back(&mut set, add, no) && set.has(3));
-    assert_eq!(rt; (set.apply(remove)?.p, set.apply(remove)?.p), (1, 0));
+    assert_eq!(rt; set.apply(remove)?.p, 1);
+    assert_eq!(rt; set.apply(remove)?.p, 0);
     assert!(rt; !set.has(3));
     assert!(rt; taken_back(&mut set, remove, yes) && set.has(3));
     assert!(rt; taken_back(&mut set, add, yes) && !set.has(3));
@@ -40,16 +42,16 @@ fn cells_are_as_their_calls_leave_them(rt: HostRuntime) -> Result<(), Fail> {
     needs(&cells);
     let add = Call::new(cells_methods::ADD, 3, i64::MAX, 0, 0);
     let set = Call::new(cells_methods::SET, 3, 4, 0, 0);
-    assert_eq!(rt; (cells.apply(add)?.p, cells.apply(set)?.p), (0, i64::MAX));
+    assert_eq!(rt; cells.apply(add)?.p, 0);
+    assert_eq!(rt; cells.apply(set)?.p, i64::MAX);
     assert_eq!(rt;
         cells.apply(Call::new(cells_methods::READ, 3, 0, 0, 0))?.p,
         4
     );
     assert!(rt; taken_back(&mut cells, set, Reply::new(i64::MAX, 0, 0, 0)));
-    assert_eq!(rt;
-        (cells.value(3), cells.value(4), cells.observe(3)),
-        (i64::MAX, 0, 0)
-    );
+    assert_eq!(rt; cells.value(3), i64::MAX);
+    assert_eq!(rt; cells.value(4), 0);
+    assert_eq!(rt; cells.observe(3), 0);
     // A call of another kind of object does nothing.
     assert_eq!(rt; cells.apply(Call::new(set_methods::ADD, 3, 9, 0, 0))?.p, 0);
     assert_eq!(rt; cells.value(3), i64::MAX);
@@ -62,7 +64,9 @@ fn tidying_drops_dead_rows_where_they_are_many(rt: HostRuntime) -> Result<(), Fa
     let yes = Reply::new(1, 0, 0, 0);
     for x in 0..64 {
         set.apply(Call::new(set_methods::ADD, x, 0, 0, 0))?;
-        set.apply(Call::new(set_methods::REMOVE, 63 - x, 0, 0, 0))?;
+    }
+    for x in 0..64 {
+        set.apply(Call::new(set_methods::REMOVE, x, 0, 0, 0))?;
     }
     set.apply(Call::new(set_methods::ADD, 80, 0, 0, 0))?;
     set.tidy()?;
