@@ -11,7 +11,7 @@ ghost use Rattle.speculation_cases.specs.Beginnings.{HasPreciseRows};
 ghost use Rattle.speculation_cases.specs.Diamond.{net, diamond, alternating, turns_of_both, turns_with_drain};
 ghost use Rattle.speculation_cases.specs.SmallConflict.{setters, two_setters, setters_schedule, turns_of_setters};
 
-/// The machines of these cases are new ones, so every law of the speculative machine speaks of them.
+/// The machines of these cases are new ones, as the laws of the speculative machine ask.
 pub fn the_cases_begin_new()
     ensures diamond { (table : RowMap) → HasPreciseRows flow_tables table → IsNew (discharge_operator net) (diamond table) }
     ensures setters { (table : RowMap) → HasPreciseRows cells_tables table → IsNew setters (two_setters table) }
