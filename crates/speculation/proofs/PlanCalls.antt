@@ -1,5 +1,5 @@
 -- The runs of an operator whose plans have only calls with numbers of 64 bits ask no others.
-use Rattle.std.specs.Prelude.{ℕ, zero, suc, List, [], ◌∷◌}
+use Rattle.std.specs.Prelude.{ℕ, zero, suc, List, [], ◌∷◌, ⊤}
 use Rattle.gx_base.specs.declared.items.Item.{Item}
 use Rattle.gx_base.specs.declared.acts.Step.{Step}
 use Rattle.gx_base.specs.States.{State}
@@ -35,19 +35,19 @@ module _ (op : Operator) (all : (item : Item) → HasOnlyCalls (op.plan item)) w
   phase_asks item o Undoing h = tt
 
   module _ (starts : ℕ → State) (first : List Item) where
-    turn_asks : (m : Machine) (worker : ℕ) → SoundMachine op starts first m → AsksCall (m.sessions worker).phase
+    turn_asks : (m : Machine) (worker : ℕ) → SoundMachine ⊤ op starts first m → AsksCall (m.sessions worker).phase
     turn_asks m worker h = phase_asks (m.sessions worker).item (m.sessions worker).outcome (m.sessions worker).phase (h.sessions worker)
 
-    scheduled_ask : (schedule : List ℕ) (r : Run) → SoundMachine op starts first r.machine → ScheduledAsk op r schedule
+    scheduled_ask : (schedule : List ℕ) (r : Run) → SoundMachine ⊤ op starts first r.machine → ScheduledAsk op r schedule
     scheduled_ask [] r h = tt
     scheduled_ask (worker ∷ schedule) r h = λ e.
-        (turn_asks r.machine worker h, scheduled_ask schedule (then_turned r worker (turn_at op (place_of r.machine worker) worker)) (turn_is_sound op starts first r.machine worker (turn_asks r.machine worker h) h))
+        (turn_asks r.machine worker h, scheduled_ask schedule (then_turned r worker (turn_at op (place_of r.machine worker) worker)) (turn_is_sound ⊤ op starts first r.machine worker (λ _. turn_asks r.machine worker h) h))
 
-    alone_ask : (turns : ℕ) (m : Machine) → SoundMachine op starts first m → AloneAsk op m turns
+    alone_ask : (turns : ℕ) (m : Machine) → SoundMachine ⊤ op starts first m → AloneAsk op m turns
     alone_ask zero m h = tt
-    alone_ask (suc turns) m h = λ e. (turn_asks m 0 h, alone_ask turns (turn op m 0) (turn_is_sound op starts first m 0 (turn_asks m 0 h) h))
+    alone_ask (suc turns) m h = λ e. (turn_asks m 0 h, alone_ask turns (turn op m 0) (turn_is_sound ⊤ op starts first m 0 (λ _. turn_asks m 0 h) h))
 
   pub asks_calls : (m : Machine) (workers : ℕ) (schedule : List ℕ) (turns : ℕ) → IsNew op m → AsksCalls op m workers schedule turns
   asks_calls m workers schedule turns h =
-      let scheduled : ScheduledAsk op (begun m) schedule = scheduled_ask (object_states m) m.book.ready schedule (begun m) (new_is_sound op m h) in
-      (scheduled, alone_ask (object_states m) m.book.ready turns (drained op m workers schedule).machine (drained_is_sound op m workers schedule h scheduled))
+      let scheduled : ScheduledAsk op (begun m) schedule = scheduled_ask (object_states m) m.book.ready schedule (begun m) (new_is_sound op ⊤ m h) in
+      (scheduled, alone_ask (object_states m) m.book.ready turns (drained op m workers schedule).machine (drained_is_sound ⊤ op m workers schedule h (λ _. scheduled)))

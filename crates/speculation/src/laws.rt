@@ -18,12 +18,12 @@ pub fn runs_are_serial()
         → IsSerialInTheEnd op m (played op m workers schedule turns).machine }
 {}
 
-/// Every run ends: worker 0 alone leaves nothing ready, or commits as many items as one likes. The machine
-/// knows no limits. A loop with limits ends too: nothing is ready, or a commit would pass a limit.
+/// Every run ends, whatever numbers its calls have: worker 0 alone leaves nothing ready, or commits as many
+/// items as one likes. The machine knows no limits. A loop with limits ends too: nothing is ready, or a commit would pass a limit.
 pub fn runs_end()
-    ensures by_limit { (op : Operator) (m : Machine) (workers : ℕ) (schedule : List ℕ) → IsNew op m → AllBelow schedule workers → ((turns : ℕ) → AsksCalls op m workers schedule turns)
+    ensures by_limit { (op : Operator) (m : Machine) (workers : ℕ) (schedule : List ℕ) → IsNew op m → AllBelow schedule workers
         → EndsOrPasses op m workers schedule }
-    ensures by_count { (op : Operator) (m : Machine) (workers : ℕ) (schedule : List ℕ) (count : ℕ) → IsNew op m → AllBelow schedule workers → ((turns : ℕ) → AsksCalls op m workers schedule turns)
+    ensures by_count { (op : Operator) (m : Machine) (workers : ℕ) (schedule : List ℕ) (count : ℕ) → IsNew op m → AllBelow schedule workers
         → EndsOrCommits count op m workers schedule }
 {}
 
