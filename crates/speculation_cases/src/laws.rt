@@ -9,11 +9,13 @@ ghost use Rattle.speculation.specs.Premises.{IsNew};
 ghost use Rattle.speculation.specs.ScheduledRuns.{begun, scheduled, drained};
 ghost use Rattle.speculation_cases.specs.Beginnings.{HasPreciseRows};
 ghost use Rattle.speculation_cases.specs.Diamond.{net, diamond, alternating, turns_of_both, turns_with_drain};
+ghost use Rattle.speculation_cases.specs.NamedReader.{setter_and_reader, one_setter, reader_schedule, turns_of_reader};
 ghost use Rattle.speculation_cases.specs.SmallConflict.{setters, two_setters, setters_schedule, turns_of_setters};
 
 /// The machines of these cases are new ones, as the laws of the speculative machine ask.
 pub fn the_cases_begin_new()
     ensures diamond { (table : RowMap) → HasPreciseRows flow_tables table → IsNew (discharge_operator net) (diamond table) }
+    ensures reader { (table : RowMap) → HasPreciseRows cells_tables table → IsNew setter_and_reader (one_setter table) }
     ensures setters { (table : RowMap) → HasPreciseRows cells_tables table → IsNew setters (two_setters table) }
 {}
 
@@ -21,6 +23,12 @@ pub fn the_cases_begin_new()
 /// undoes, and one of an iteration without entries.
 pub fn two_setters_in_conflict()
     ensures { (table : RowMap) → HasPreciseRows cells_tables table → (scheduled setters (begun (two_setters table)) setters_schedule).trace ≡ turns_of_setters }
+{}
+
+/// An ordered loop in which a finished iteration waits, is named by one of a smaller item, and undoes.
+/// Were nobody named, it would wait on.
+pub fn a_named_iteration_undoes()
+    ensures { (table : RowMap) → HasPreciseRows cells_tables table → (scheduled setter_and_reader (begun (one_setter table)) reader_schedule).trace ≡ turns_of_reader }
 {}
 
 /// The diamond of four nodes, with two workers that take turns: forty turns, after which nothing is
