@@ -4,3 +4,4 @@ pub mod DiamondTurns
 pub mod SetterTurns
 pub mod ReaderTurns
 pub mod NewCases
+pub mod SerialDiamond

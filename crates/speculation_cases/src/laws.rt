@@ -1,12 +1,13 @@
 //! The turns of runs that were worked out by hand.
 
-ghost use Rattle.std.specs.Prelude.{◌≡◌};
+ghost use Rattle.std.specs.Prelude.{◌≡◌, ℕ, true};
 ghost use Rattle.gx_base.specs.TableRows.{RowMap};
 ghost use Rattle.kind_tables.specs.FlowTables.{flow_tables};
 ghost use Rattle.preflow_push.specs.Discharge.{discharge_operator};
 ghost use Rattle.shared_sets.specs.CellsTables.{cells_tables};
 ghost use Rattle.speculation.specs.Premises.{IsNew};
-ghost use Rattle.speculation.specs.ScheduledRuns.{begun, scheduled, drained};
+ghost use Rattle.speculation.specs.RunResults.{IsSerialInTheEnd};
+ghost use Rattle.speculation.specs.ScheduledRuns.{is_empty, begun, scheduled, drained, played};
 ghost use Rattle.speculation_cases.specs.Beginnings.{HasPreciseRows};
 ghost use Rattle.speculation_cases.specs.Diamond.{net, diamond, alternating, turns_of_both, turns_with_drain};
 ghost use Rattle.speculation_cases.specs.NamedReader.{setter_and_reader, one_setter, reader_schedule, turns_of_reader};
@@ -37,7 +38,14 @@ pub fn the_diamond_with_two_workers()
     ensures { (table : RowMap) → HasPreciseRows flow_tables table → (scheduled (discharge_operator net) (begun (diamond table)) (alternating 50)).trace ≡ turns_of_both }
 {}
 
-/// The same, cut off after six turns: the calls of both workers are undone, those of worker 0 first.
+/// So the run of the diamond is serial: its calls have numbers of 64 bits, and it keeps all that the law
+/// of runs asks. Nothing is ready at its end, with any number of turns of worker 0 after the others.
+pub fn the_diamond_is_serial()
+    ensures serial { (table : RowMap) (turns : ℕ) → HasPreciseRows flow_tables table → IsSerialInTheEnd (discharge_operator net) (diamond table) (played (discharge_operator net) (diamond table) 2 (alternating 50) turns).machine }
+    ensures ends { (table : RowMap) (turns : ℕ) → HasPreciseRows flow_tables table → is_empty (played (discharge_operator net) (diamond table) 2 (alternating 50) turns).machine.book.ready ≡ true }
+{}
+
+/// The same turns, cut off after six: the calls of both workers are undone, those of worker 0 first.
 pub fn the_drained_diamond()
     ensures { (table : RowMap) → HasPreciseRows flow_tables table → (drained (discharge_operator net) (diamond table) 2 (alternating 3)).trace ≡ turns_with_drain }
 {}
