@@ -124,7 +124,7 @@ module _ (rows : Rows) (op : Operator) where
   given_ask [] rest r h a later = later
   given_ask (g ∷ gs) rest r h a later =
       λ e. (
-      a.0,
-      subst (λ t. ScheduledAsk op (then_turned r g.worker t) (map (λ (x : Given). x.worker) gs ++ rest)) (sym (phases (place_of r.machine g.worker) g.worker (r.machine.sessions g.worker).phase g.way g.reply (h.0).1))
-      (given_ask gs rest (then_turned r g.worker (turn_given op r g)) h.1 a.1 later)
+        a.0,
+        subst (λ t. ScheduledAsk op (then_turned r g.worker t) (map (λ (x : Given). x.worker) gs ++ rest)) (sym (phases (place_of r.machine g.worker) g.worker (r.machine.sessions g.worker).phase g.way g.reply (h.0).1))
+            (given_ask gs rest (then_turned r g.worker (turn_given op r g)) h.1 a.1 later),
       )
