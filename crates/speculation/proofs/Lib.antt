@@ -14,6 +14,6 @@ pub mod Lone
 pub mod InWay
 pub mod EventLemmas
 pub mod Theorems
-pub mod PlanCalls
 pub mod Limited
 pub mod CallerLemmas
+pub mod Names

@@ -17,7 +17,7 @@ use Rattle.speculation.specs.Events as event
 use Rattle.speculation.specs.Sessions.{Session, Phase, Idle, Running, Finished, Undoing, is_idle, ended, undoing, undone_to, Ahead, Asks, Ends, ahead, last_step, steps_before, has_no_step}
 use Rattle.speculation.specs.Machines.{Machine, Place, place_of, settled, named_off, let_go, given_up, committed, Turned, take, live_at, answer, entry_of, undo_step, undo, finish, go, turn_in, turn_at, turn}
 use Rattle.speculation.specs.ScheduledRuns.{is_empty, Run, begun, then_turned, scheduled, drain_step, drain_steps, drain_worker, drain, alone, drained, played, AllBelow}
-use Rattle.speculation.specs.Premises.{IsNew, AsksCalls}
+use Rattle.speculation.specs.Premises.{IsNew}
 use Rattle.speculation.specs.Limits.{Limit, Spent, Kept, limit_of, limit_at, limit_in, or_later, limit_of_scheduled, limit_of_alone, limit_of_played, EndsOrPasses}
 use Rattle.speculation.specs.RunResults.{EndsOrCommits}
 use Rattle.speculation.proofs.Putting.{no_bool}
@@ -169,8 +169,8 @@ module _ (op : Operator) where
       alone_within turns (drained op m workers schedule).machine none.1 (drain_within workers (scheduled op (begun m) schedule) (scheduled_within schedule (begun m) none.0 first))
 
   -- after enough turns nothing is ready, or a commit would have passed a limit
-  pub ends_or_passes : (m : Machine) (workers : ℕ) (schedule : List ℕ) → IsNew op m → AllBelow schedule workers → ((turns : ℕ) → AsksCalls op m workers schedule turns) → EndsOrPasses op m workers schedule
-  ends_or_passes m workers schedule h b a = by_end (runs_end op m workers schedule (suc most_commits) h b a)
+  pub ends_or_passes : (m : Machine) (workers : ℕ) (schedule : List ℕ) → IsNew op m → AllBelow schedule workers → EndsOrPasses op m workers schedule
+  ends_or_passes m workers schedule h b = by_end (runs_end op m workers schedule (suc most_commits) h b)
     where
       by_end : EndsOrCommits (suc most_commits) op m workers schedule → EndsOrPasses op m workers schedule
       by_end (turns, inl empty) = (turns, inl empty)

@@ -20,7 +20,7 @@ use Rattle.speculation.specs.Events as event
 use Rattle.speculation.specs.Sessions.{Session, Phase, Idle, Running, Finished, Undoing, is_idle, begun_on, ended, with_call, Ahead, Asks, Ends, ahead}
 use Rattle.speculation.specs.Machines.{Machine, place_of, settled, reply_in, given_up, committed, Turned, take, answer, entry_of, undo, go, turn_in, turn_at, turn}
 use Rattle.speculation.specs.ScheduledRuns.{is_empty, alone}
-use Rattle.speculation.specs.Premises.{IsInOrder, AloneAsk}
+use Rattle.speculation.specs.Premises.{IsInOrder}
 use Rattle.speculation.proofs.Putting.{no_bool, both_are, put_same, put_other, put_holds, same_number, numbers_equal}
 use Rattle.speculation.proofs.IterationEntries.{IsCurrent, current_of, none_first}
 use Rattle.speculation.proofs.InOrder.{least_first, not_empty_set}
@@ -64,8 +64,9 @@ or_true true b e = refl
 or_true false b e = e
 
 module _ (op : Operator) (starts : ℕ → State) (first : List Item) where
+  -- nothing is asked of the numbers of calls, so nothing is said of the gates
   abbrev Sound : Machine → Type 0
-  Sound m = SoundMachine op starts first m
+  Sound m = SoundMachine ⊥ op starts first m
 
   -- worker 0 runs, and the others are idle
   pub record Works (m : Machine) (plan : Plan) : Type 0 where
@@ -89,7 +90,7 @@ module _ (op : Operator) (starts : ℕ → State) (first : List Item) where
   clear m s room call h i idle =
       none_in_way (rows_of (m.gates room)) (asked_entry 0 s.iter s.item call (m.gates room).state) (live_start (m.gates room)) (m.gates room).live
       (subst (λ iter. others_than 0 iter (m.gates room).live ≡ []) i
-      (no_others (λ v. (m.sessions v).iter) (λ v. (m.sessions v).item) (m.gates room).live (λ v. (h.logs room v).current) (λ v n. idle_entries op starts first m room v h (idle v n))))
+      (no_others (λ v. (m.sessions v).iter) (λ v. (m.sessions v).item) (m.gates room).live (λ v. (h.logs room v).current) (λ v n. idle_entries op ⊥ starts first m room v h (idle v n))))
 
   -- the session of worker 0 is of the same iteration
   record OfOwn (m : Machine) (s : Session) : Type 0 where
@@ -214,38 +215,31 @@ module _ (op : Operator) (starts : ℕ → State) (first : List Item) where
     abbrev pub ComesToEnd : Machine → Type 0
     ComesToEnd m = (turns : ℕ) × AtEnd (alone op m turns)
 
-    -- however many turns worker 0 takes, its calls have numbers of 64 bits
-    abbrev pub AskOn : Machine → Type 0
-    AskOn m = (turns : ℕ) → AloneAsk op m turns
-
-    later : (m : Machine) → is_empty m.book.ready ≡ false → AskOn m → AskOn (turn op m 0)
-    later m e a turns = (a (suc turns) e).1
-
     one_turn : (m : Machine) → is_empty m.book.ready ≡ false → ComesToEnd (turn op m 0) → ComesToEnd m
     unfolding alone
     one_turn m e h = (suc h.0, subst (λ (b : Bool). AtEnd (if b then m else alone op (turn op m 0) h.0)) (sym e) h.1)
 
     abbrev Then : ℕ → Type 0
-    Then count = (n : Machine) → Sound n → IsTidy n → AskOn n → Rests n (suc count) → ComesToEnd n
+    Then count = (n : Machine) → Sound n → IsTidy n → Rests n (suc count) → ComesToEnd n
 
     ready_now : (m : Machine) (plan : Plan) → Works m plan → is_empty m.book.ready ≡ false
     ready_now m plan w = not_empty_set m.book.ready (m.sessions 0).item (both_true (has_item m.book.ready (m.sessions 0).item) (not m.book.ordered || is_least m.book.ready (m.sessions 0).item) w.may).0
 
     -- what is to be shown of a body where it has come to a plan
     abbrev BodyEnds : ℕ → Plan → Type 0
-    BodyEnds count plan = (m : Machine) → length m.book.commits ≡ count → Sound m → IsTidy m → AskOn m → Works m plan → Then count → ComesToEnd m
+    BodyEnds count plan = (m : Machine) → length m.book.commits ≡ count → Sound m → IsTidy m → Works m plan → Then count → ComesToEnd m
 
     -- a plan all of whose rests come to the end does
     body_by : (count : ℕ) (plan : Plan) → ((left : Plan) → IsLeftOf plan left → BodyEnds count left) → BodyEnds count plan
-    body_by count plan more m c h t a w next =
+    body_by count plan more m c h t w next =
         let e : is_empty m.book.ready ≡ false = ready_now m plan w in
-        let h' : Sound (turn op m 0) = turn_is_sound op starts first m 0 (a 1 e).0 h in
+        let h' : Sound (turn op m 0) = turn_is_sound ⊥ op starts first m 0 (λ none. absurd none) h in
         let t' : IsTidy (turn op m 0) = tidy_turn op m 0 t in
-        one_turn m e (goes_by (turn op m 0) h' t' (later m e a) (subst (λ n. Goes (turn op m 0) n plan) c (works_on m plan h w)))
+        one_turn m e (goes_by (turn op m 0) h' t' (subst (λ n. Goes (turn op m 0) n plan) c (works_on m plan h w)))
       where
-        goes_by : (n : Machine) → Sound n → IsTidy n → AskOn n → Goes n count plan → ComesToEnd n
-        goes_by n h' t' a' (inl b) = more b.left b.nearer n b.commits h' t' a' b.works next
-        goes_by n h' t' a' (inr r) = next n h' t' a' r
+        goes_by : (n : Machine) → Sound n → IsTidy n → Goes n count plan → ComesToEnd n
+        goes_by n h' t' (inl b) = more b.left b.nearer n b.commits h' t' b.works next
+        goes_by n h' t' (inr r) = next n h' t' r
 
     -- what is left of a plan after its acts comes to the end
     rests_end : (count : ℕ) (plan : Plan) → (left : Plan) → IsLeftOf plan left → BodyEnds count left
@@ -256,15 +250,15 @@ module _ (op : Operator) (starts : ℕ → State) (first : List Item) where
     body_ends : (count : ℕ) (plan : Plan) → BodyEnds count plan
     body_ends count plan = body_by count plan (rests_end count plan)
 
-    lone_by : (j : ℕ) (m : Machine) (count : ℕ) (ready : List Item) → m.book.ready ≡ ready → Sound m → IsTidy m → AskOn m → Rests m count → Then count → ComesToEnd m
+    lone_by : (j : ℕ) (m : Machine) (count : ℕ) (ready : List Item) → m.book.ready ≡ ready → Sound m → IsTidy m → Rests m count → Then count → ComesToEnd m
     unfolding alone
-    lone_by j m count [] e h t a r next = (zero, inl (ap is_empty e))
-    lone_by j m count (item ∷ items) e h t a r next =
+    lone_by j m count [] e h t r next = (zero, inl (ap is_empty e))
+    lone_by j m count (item ∷ items) e h t r next =
         let n : is_empty m.book.ready ≡ false = ap is_empty e in
         let b : Begins (turn op m 0) count = subst (λ k. Begins (turn op m 0) k) r.commits (takes_turn m item items e t r.idle) in
-        one_turn m n (body_ends count b.plan (turn op m 0) b.commits (turn_is_sound op starts first m 0 (a 1 n).0 h) (tidy_turn op m 0 t) (later m n a) b.works next)
+        one_turn m n (body_ends count b.plan (turn op m 0) b.commits (turn_is_sound ⊥ op starts first m 0 (λ none. absurd none) h) (tidy_turn op m 0 t) b.works next)
 
-    pub lone_ends : (j : ℕ) (m : Machine) (count : ℕ) → Sound m → IsTidy m → AskOn m → Rests m count → limit ≤ count + j → ComesToEnd m
+    pub lone_ends : (j : ℕ) (m : Machine) (count : ℕ) → Sound m → IsTidy m → Rests m count → limit ≤ count + j → ComesToEnd m
     unfolding alone
-    lone_ends zero m count h t a r l = (zero, inr (let c : length m.book.commits ≡ count = r.commits in omega arith))
-    lone_ends (suc j) m count h t a r l = lone_by j m count m.book.ready refl h t a r (λ n h' t' a' r'. lone_ends j n (suc count) h' t' a' r' (omega arith))
+    lone_ends zero m count h t r l = (zero, inr (let c : length m.book.commits ≡ count = r.commits in omega arith))
+    lone_ends (suc j) m count h t r l = lone_by j m count m.book.ready refl h t r (λ n h' t' r'. lone_ends j n (suc count) h' t' r' (omega arith))

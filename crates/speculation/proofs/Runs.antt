@@ -49,17 +49,17 @@ chosen_machine P false m n h k = k refl
 own : (s : Session) → Same s s
 own s = record { iter = refl; item = refl; steps = refl }
 
-module _ (op : Operator) (starts : ℕ → State) (first : List Item) where
+module _ (claim : Type 0) (op : Operator) (starts : ℕ → State) (first : List Item) where
   abbrev pub Sound : Machine → Type 0
-  Sound m = SoundMachine op starts first m
+  Sound m = SoundMachine claim op starts first m
 
-  pub scheduled_is_sound : (schedule : List ℕ) (r : Run) → ScheduledAsk op r schedule → Sound r.machine → Sound (scheduled op r schedule).machine
+  pub scheduled_is_sound : (schedule : List ℕ) (r : Run) → (claim → ScheduledAsk op r schedule) → Sound r.machine → Sound (scheduled op r schedule).machine
   unfolding scheduled
   scheduled_is_sound [] r a h = h
   scheduled_is_sound (worker ∷ schedule) r a h =
       let n : Run = then_turned r worker (turn_at op (place_of r.machine worker) worker) in
       chosen Sound (is_empty r.machine.book.ready) r (scheduled op n schedule) (λ e. h)
-      (λ e. scheduled_is_sound schedule n (a e).1 (turn_is_sound op starts first r.machine worker (a e).0 h))
+      (λ e. scheduled_is_sound schedule n (λ c. (a c e).1) (turn_is_sound claim op starts first r.machine worker (λ c. (a c e).0) h))
 
   pub step_is_sound : (r : Run) (worker : ℕ) → Sound r.machine → Sound (drain_step r worker).machine
   step_is_sound r worker h =
@@ -68,7 +68,7 @@ module _ (op : Operator) (starts : ℕ → State) (first : List Item) where
       let gone : Run = record r { machine = settled m worker (let_go (place_of m worker) worker s) } in
       let less : Run = then_turned r worker (undo (place_of m worker) worker s) in
       chosen Sound (is_idle s.phase) r (if has_no_step s.outcome.steps then gone else less) (λ e. h)
-      (λ e. chosen Sound (has_no_step s.outcome.steps) gone less (λ n. lets_go op starts first m worker s h (own s) (is_none s.outcome.steps n)) (λ n. undoes op starts first m worker s h (own s)))
+      (λ e. chosen Sound (has_no_step s.outcome.steps) gone less (λ n. lets_go claim op starts first m worker s h (own s) (is_none s.outcome.steps n)) (λ n. undoes claim op starts first m worker s h (own s)))
 
   steps_are_sound : (n : ℕ) (r : Run) (worker : ℕ) → Sound r.machine → Sound (drain_steps n r worker).machine
   steps_are_sound zero r worker h = h
@@ -79,22 +79,22 @@ module _ (op : Operator) (starts : ℕ → State) (first : List Item) where
   drain_is_sound zero r h = h
   drain_is_sound (suc worker) r h = steps_are_sound (suc (length ((drain r worker).machine.sessions worker).outcome.steps)) (drain r worker) worker (drain_is_sound worker r h)
 
-  pub alone_is_sound : (n : ℕ) (m : Machine) → AloneAsk op m n → Sound m → Sound (alone op m n)
+  pub alone_is_sound : (n : ℕ) (m : Machine) → (claim → AloneAsk op m n) → Sound m → Sound (alone op m n)
   unfolding alone
   alone_is_sound zero m a h = h
   alone_is_sound (suc n) m a h =
-      chosen_machine Sound (is_empty m.book.ready) m (alone op (turn op m 0) n) (λ e. h) (λ e. alone_is_sound n (turn op m 0) (a e).1 (turn_is_sound op starts first m 0 (a e).0 h))
+      chosen_machine Sound (is_empty m.book.ready) m (alone op (turn op m 0) n) (λ e. h) (λ e. alone_is_sound n (turn op m 0) (λ c. (a c e).1) (turn_is_sound claim op starts first m 0 (λ c. (a c e).0) h))
 
-module _ (op : Operator) where
-  pub drained_is_sound : (m : Machine) (workers : ℕ) (schedule : List ℕ) → IsNew op m → ScheduledAsk op (begun m) schedule → SoundMachine op (object_states m) m.book.ready (drained op m workers schedule).machine
+module _ (claim : Type 0) (op : Operator) where
+  pub drained_is_sound : (m : Machine) (workers : ℕ) (schedule : List ℕ) → IsNew op m → (claim → ScheduledAsk op (begun m) schedule) → SoundMachine claim op (object_states m) m.book.ready (drained op m workers schedule).machine
   unfolding drained
   drained_is_sound m workers schedule h a =
-      drain_is_sound op (object_states m) m.book.ready workers (scheduled op (begun m) schedule) (scheduled_is_sound op (object_states m) m.book.ready schedule (begun m) a (new_is_sound op m h))
+      drain_is_sound claim op (object_states m) m.book.ready workers (scheduled op (begun m) schedule) (scheduled_is_sound claim op (object_states m) m.book.ready schedule (begun m) a (new_is_sound op claim m h))
 
-  pub played_is_sound : (m : Machine) (workers : ℕ) (schedule : List ℕ) (turns : ℕ) → IsNew op m → AsksCalls op m workers schedule turns → SoundMachine op (object_states m) m.book.ready (played op m workers schedule turns).machine
+  pub played_is_sound : (m : Machine) (workers : ℕ) (schedule : List ℕ) (turns : ℕ) → IsNew op m → (claim → AsksCalls op m workers schedule turns) → SoundMachine claim op (object_states m) m.book.ready (played op m workers schedule turns).machine
   unfolding played
   played_is_sound m workers schedule turns h a =
-      alone_is_sound op (object_states m) m.book.ready turns (drained op m workers schedule).machine a.1 (drained_is_sound m workers schedule h a.0)
+      alone_is_sound claim op (object_states m) m.book.ready turns (drained op m workers schedule).machine (λ c. (a c).1) (drained_is_sound m workers schedule h (λ c. (a c).0))
 
 -- ---- idle workers stay idle while others take turns
 

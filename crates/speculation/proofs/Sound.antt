@@ -48,8 +48,9 @@ pub record SoundBook (op : Operator) (first : List Item) (b : BookView) : Type 0
 abbrev pub SoundLogOf : (room worker : ℕ) → Session → List Entry → Type 0
 SoundLogOf room worker s live = SoundLog room worker s.iter s.item s.outcome.steps live
 
-pub record SoundMachine (op : Operator) (starts : ℕ → State) (first : List Item) (m : Machine) : Type 0 where
-  pub gates : (room : ℕ) → SoundGate (starts room) room (journal m.book.commits) (m.gates room)
+-- what is said of the gates holds by the claim that each call that was asked had numbers of 64 bits
+pub record SoundMachine (claim : Type 0) (op : Operator) (starts : ℕ → State) (first : List Item) (m : Machine) : Type 0 where
+  pub gates : claim → (room : ℕ) → SoundGate (starts room) room (journal m.book.commits) (m.gates room)
   pub logs : (room worker : ℕ) → SoundLogOf room worker (m.sessions worker) (m.gates room).live
   pub sessions : (worker : ℕ) → SoundPhase op (m.sessions worker).item (m.sessions worker).outcome (m.sessions worker).phase
   pub book : SoundBook op first m.book

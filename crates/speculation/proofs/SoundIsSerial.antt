@@ -1,5 +1,5 @@
 -- A sound machine's commits are a serial run, and of an aborted iteration it has no trace.
-use Rattle.std.specs.Prelude.{◌≡◌, ℕ, ◌≤◌, length, Bool, true, false, List, [], ◌∷◌, ◌++◌, refl}
+use Rattle.std.specs.Prelude.{◌≡◌, ℕ, ◌≤◌, length, Bool, true, false, List, [], ◌∷◌, ◌++◌, ⊤, refl}
 use Rattle.std.proofs.Common.{sym, ◌∙◌, ap, subst, arith}
 use Rattle.gx_base.specs.declared.items.Item.{Item}
 use Rattle.gx_base.specs.declared.acts.Entry.{Entry}
@@ -27,10 +27,10 @@ module _ (op : Operator) where
   past_replays : (first : State) (room : ℕ) (steps : List Step) (g : GateView) → SoundGate first room steps g → Legal first (part room steps) (live_start g)
   past_replays first room steps g h = subst (λ (ms : List Made). Legal first ms (live_start g)) h.past (subst (λ s. Legal s (mades_of g.done) (live_start g)) h.begun h.lawful.done_legal)
 
-  pub sound_is_serial : (starts : ℕ → State) (first : List Item) (m : Machine) → SoundMachine op starts first m → IsSerialRun op starts first m.book.commits (end_in m (committed_states m))
+  pub sound_is_serial : (starts : ℕ → State) (first : List Item) (m : Machine) → SoundMachine ⊤ op starts first m → IsSerialRun op starts first m.book.commits (end_in m (committed_states m))
   sound_is_serial starts first m h =
       IsSerialRun-runs op starts (committed_states m) first m.book.ready m.book.commits h.book.in_turn h.book.runs
-      (Replays-merged starts (committed_states m) (journal m.book.commits) (λ room. past_replays (starts room) room (journal m.book.commits) (m.gates room) (h.gates room)))
+      (Replays-merged starts (committed_states m) (journal m.book.commits) (λ room. past_replays (starts room) room (journal m.book.commits) (m.gates room) (h.gates tt room)))
 
   -- ---- idle workers
 
@@ -40,15 +40,15 @@ module _ (op : Operator) where
   idle_steps item o Finished e h = absurd (cc)
   idle_steps item o Undoing e h = absurd (cc)
 
-  pub idle_entries : (starts : ℕ → State) (first : List Item) (m : Machine) (room worker : ℕ) → SoundMachine op starts first m → is_idle (m.sessions worker).phase ≡ true → entries_of worker (m.sessions worker).iter (m.gates room).live ≡ []
-  idle_entries starts first m room worker h i =
+  pub idle_entries : (claim : Type 0) (starts : ℕ → State) (first : List Item) (m : Machine) (room worker : ℕ) → SoundMachine claim op starts first m → is_idle (m.sessions worker).phase ≡ true → entries_of worker (m.sessions worker).iter (m.gates room).live ≡ []
+  idle_entries claim starts first m room worker h i =
       no_mades (entries_of worker (m.sessions worker).iter (m.gates room).live)
       ((h.logs room worker).entries ∙ ap (part room) (idle_steps (m.sessions worker).item (m.sessions worker).outcome (m.sessions worker).phase i (h.sessions worker)))
 
   -- where all workers are idle, no gate has an uncommitted entry
-  pub idle_is_clear : (starts : ℕ → State) (first : List Item) (m : Machine) → SoundMachine op starts first m → ((worker : ℕ) → is_idle (m.sessions worker).phase ≡ true) → (room : ℕ) → (m.gates room).live ≡ []
+  pub idle_is_clear : (starts : ℕ → State) (first : List Item) (m : Machine) → SoundMachine ⊤ op starts first m → ((worker : ℕ) → is_idle (m.sessions worker).phase ≡ true) → (room : ℕ) → (m.gates room).live ≡ []
   idle_is_clear starts first m h i room =
-      nobody (λ worker. (m.sessions worker).iter) (λ worker. (m.sessions worker).item) (m.gates room).live (λ worker. (h.logs room worker).current) (λ worker. idle_entries starts first m room worker h (i worker))
+      nobody (λ worker. (m.sessions worker).iter) (λ worker. (m.sessions worker).item) (m.gates room).live (λ worker. (h.logs room worker).current) (λ worker. idle_entries ⊤ starts first m room worker h (i worker))
 
   -- ---- entries of live iterations
 
@@ -70,11 +70,11 @@ module _ (op : Operator) where
         are_live sessions es (λ v. (c v).1) (λ v i. (none_first v (sessions v).iter (sessions v).item e es (c v).0 (n v i)).1),
       )
 
-  pub sound_has_no_trace : (first : List Item) (before m : Machine) → SoundMachine op (object_states before) first m → HasNoTraceOfAborted before m
+  pub sound_has_no_trace : (first : List Item) (before m : Machine) → SoundMachine ⊤ op (object_states before) first m → HasNoTraceOfAborted before m
   sound_has_no_trace first before m h = record {
-    replayed = λ room. subst (λ s. Legal s (mades_of ((m.gates room).done ++ (m.gates room).live)) (m.gates room).state) (h.gates room).begun (replayed (m.gates room) (h.gates room).lawful);
-    committed = λ room. (h.gates room).past;
-    uncommitted = λ room. are_live m.sessions (m.gates room).live (λ worker. (h.logs room worker).current) (λ worker i. idle_entries (object_states before) first m room worker h i);
+    replayed = λ room. subst (λ s. Legal s (mades_of ((m.gates room).done ++ (m.gates room).live)) (m.gates room).state) (h.gates tt room).begun (replayed (m.gates room) (h.gates tt room).lawful);
+    committed = λ room. (h.gates tt room).past;
+    uncommitted = λ room. are_live m.sessions (m.gates room).live (λ worker. (h.logs room worker).current) (λ worker i. idle_entries ⊤ (object_states before) first m room worker h i);
   }
 
   -- ---- a new machine is sound
@@ -93,9 +93,9 @@ module _ (op : Operator) where
   no_mark : (g : GateView) → IsNewGate g → g.mark ≡ 0
   no_mark g h = h.lawful.mark ∙ ap (λ done. mark_of 0 done) h.no_done
 
-  pub new_is_sound : (m : Machine) → IsNew op m → SoundMachine op (object_states m) m.book.ready m
-  new_is_sound m h = record {
-    gates = λ room. subst (λ cs. SoundGate (m.gates room).state room (journal cs) (m.gates room)) (sym h.no_commits) (new_gate room (m.gates room) (h.gates room));
+  pub new_is_sound : (claim : Type 0) (m : Machine) → IsNew op m → SoundMachine claim op (object_states m) m.book.ready m
+  new_is_sound claim m h = record {
+    gates = λ _ room. subst (λ cs. SoundGate (m.gates room).state room (journal cs) (m.gates room)) (sym h.no_commits) (new_gate room (m.gates room) (h.gates room));
     logs = λ room worker. new_log room worker (m.sessions worker).iter (m.sessions worker).item (m.sessions worker).outcome (m.gates room).live (h.gates room).no_live (h.nothing_done worker);
     sessions = λ worker. subst (λ p. SoundPhase op (m.sessions worker).item (m.sessions worker).outcome p) (sym (h.idle worker)) (ap (λ (x : Outcome). x.steps) (h.nothing_done worker));
     book = record {

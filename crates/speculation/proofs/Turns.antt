@@ -63,9 +63,9 @@ gated m worker s holds room g = record { gates = put m.gates room g; book = reco
 pub settled_itself : (m : Machine) (worker : ℕ) → settled m worker (place_of m worker) ≡ m
 settled_itself m worker = λ i. record { gates = m.gates; book = m.book; sessions = λ v. put_itself m.sessions worker v i }
 
-module _ (op : Operator) (starts : ℕ → State) (first : List Item) where
+module _ (claim : Type 0) (op : Operator) (starts : ℕ → State) (first : List Item) where
   abbrev pub Sound : Machine → Type 0
-  Sound m = SoundMachine op starts first m
+  Sound m = SoundMachine claim op starts first m
 
   own_log : (m : Machine) (worker : ℕ) (s : Session) (room : ℕ) → Sound m → Same (m.sessions worker) s → SoundLogOf room worker s (m.gates room).live
   own_log m worker s room h k =
@@ -86,7 +86,7 @@ module _ (op : Operator) (starts : ℕ → State) (first : List Item) where
   }
 
   regated : (m : Machine) (worker : ℕ) (s : Session) (holds : List Hold) (room : ℕ) (g : GateView) → Sound m
-      → SoundGate (starts room) room (journal m.book.commits) g
+      → (claim → SoundGate (starts room) room (journal m.book.commits) g)
       → SoundLogOf room worker s g.live
       → ((v : ℕ) → (worker == v) ≡ false → SoundLogOf room v (m.sessions v) g.live)
       → ((r : ℕ) → (room == r) ≡ false → SoundLogOf r worker s (m.gates r).live)
@@ -94,7 +94,7 @@ module _ (op : Operator) (starts : ℕ → State) (first : List Item) where
       → g.mark ≤ length m.book.commits
       → Sound (gated m worker s holds room g)
   regated m worker s holds room g h hg here others rooms p k = record {
-    gates = put_holds (λ r x. SoundGate (starts r) r (journal m.book.commits) x) m.gates room g hg (λ r n. h.gates r);
+    gates = λ c. put_holds (λ r x. SoundGate (starts r) r (journal m.book.commits) x) m.gates room g (hg c) (λ r n. h.gates c r);
     logs =
         put_holds (λ r (x : GateView). (v : ℕ) → SoundLogOf r v (put m.sessions worker s v) x.live) m.gates room g
         (put_holds (λ v t. SoundLogOf room v t g.live) m.sessions worker s here others)
@@ -140,7 +140,7 @@ module _ (op : Operator) (starts : ℕ → State) (first : List Item) where
       λ room. subst (λ n. SoundLog room worker n t.item (t.outcome.steps ++ x ∷ []) (m.gates room).live) i
       (subst (λ n. SoundLog room worker s.iter n (t.outcome.steps ++ x ∷ []) (m.gates room).live) j (subst (λ steps. SoundLog room worker s.iter s.item steps (m.gates room).live) e (own_log m worker s room h k))) in
       regated m worker t holds x.room (undo_last (m.gates x.room) worker t.iter) h
-      (gate_undoes (starts x.room) x.room (journal m.book.commits) (m.gates x.room) worker t.iter (h.gates x.room))
+      (λ c. gate_undoes (starts x.room) x.room (journal m.book.commits) (m.gates x.room) worker t.iter (h.gates c x.room))
       (log_undoes worker t.iter t.item (m.gates x.room) t.outcome.steps x (log x.room))
       (λ v n. log_undoes_other worker t.iter x.room v (m.sessions v).iter (m.sessions v).item n (m.gates x.room) (m.sessions v).outcome.steps (h.logs x.room v))
       (λ r n. log_back_elsewhere worker t.iter t.item x r t.outcome.steps (m.gates r).live n (log r))
@@ -166,20 +166,20 @@ module _ (op : Operator) (starts : ℕ → State) (first : List Item) where
   conflicts_by m worker s held true h k p = resessioned m worker s (with_name m.book.holds held.worker held.iter s.item) h (λ room. own_log m worker s room h k) p
   conflicts_by m worker s held false h k p = gives_up m worker s h k
 
-  pub admits : (m : Machine) (worker : ℕ) (s : Session) (room : ℕ) (call : CallOf) (goes_on : Reply → Plan) → Sound m → Same (m.sessions worker) s → IsSoFar (op.plan s.item) s.outcome (Call room call goes_on) → IsCall call
+  pub admits : (m : Machine) (worker : ℕ) (s : Session) (room : ℕ) (call : CallOf) (goes_on : Reply → Plan) → Sound m → Same (m.sessions worker) s → IsSoFar (op.plan s.item) s.outcome (Call room call goes_on) → (claim → IsCall call)
       → in_way (m.gates room) (asked_entry worker s.iter s.item call (m.gates room).state) ≡ None → Sound (settled m worker (called_at (place_of m worker) worker s room call goes_on))
-  admits m worker s room call goes_on h k a c n =
+  admits m worker s room call goes_on h k a bits n =
       let reply : Reply = reply_to (m.gates room).state call in
       let x : Step = record { room = room; call = call; reply = reply } in
       regated m worker (with_call s room call goes_on reply) m.book.holds room (admit (m.gates room) worker s.iter s.item call) h
-      (gate_admits (starts room) room (journal m.book.commits) (m.gates room) worker s.iter s.item call (h.gates room) c n)
+      (λ c. gate_admits (starts room) room (journal m.book.commits) (m.gates room) worker s.iter s.item call (h.gates c room) (bits c) n)
       (log_admits worker s.iter s.item (m.gates room) room call s.outcome.steps (own_log m worker s room h k))
       (λ v ne. log_admits_other worker s.iter s.item (m.gates room) room v (m.sessions v).iter (m.sessions v).item call (m.sessions v).outcome.steps ne (h.logs room v))
       (λ r ne. log_elsewhere worker s.iter s.item x r s.outcome.steps (m.gates r).live ne (own_log m worker s r h k))
       (record { runs = called s.outcome.steps s.outcome.pushes room call goes_on reply a.runs; withdraws_nothing = a.withdraws_nothing }) (h.marks room)
 
   answers : (m : Machine) (worker : ℕ) (s : Session) (room : ℕ) (call : CallOf) (goes_on : Reply → Plan) (o : Option ℕ) → Sound m → Same (m.sessions worker) s → IsSoFar (op.plan s.item) s.outcome (Call room call goes_on)
-      → s.phase ≡ Running (Call room call goes_on) → IsCall call → in_way (m.gates room) (asked_entry worker s.iter s.item call (m.gates room).state) ≡ o
+      → s.phase ≡ Running (Call room call goes_on) → (claim → IsCall call) → in_way (m.gates room) (asked_entry worker s.iter s.item call (m.gates room).state) ≡ o
       → Sound (settled m worker (answer (place_of m worker) worker s room call goes_on (entry_of (place_of m worker) worker s room call) o).place)
   answers m worker s room call goes_on None h k a q c n = admits m worker s room call goes_on h k a c n
   answers m worker s room call goes_on (Some place) h k a q c n =
@@ -196,8 +196,8 @@ module _ (op : Operator) (starts : ℕ → State) (first : List Item) where
       let cs : List WholeCommit = m.book.commits in
       let grown : journal cs ++ s.outcome.steps ≡ journal (cs ++ c ∷ []) = sym (journal_grows cs c) in
       record {
-        gates = λ room. subst (λ steps. SoundGate (starts room) room steps (release (m.gates room) worker s.iter (length cs))) grown
-            (gate_releases (starts room) room (journal cs) (m.gates room) worker s.iter (length cs) s.outcome.steps (h.gates room) (h.marks room) (own_log m worker s room h k).entries);
+        gates = λ by room. subst (λ steps. SoundGate (starts room) room steps (release (m.gates room) worker s.iter (length cs))) grown
+            (gate_releases (starts room) room (journal cs) (m.gates room) worker s.iter (length cs) s.outcome.steps (h.gates by room) (h.marks room) (own_log m worker s room h k).entries);
         logs = λ room. put_holds (λ v t. SoundLogOf room v t (release (m.gates room) worker s.iter (length cs)).live) m.sessions worker (ended s)
             (log_releases worker s.iter s.item (m.gates room) (length cs) room s.outcome.steps (own_log m worker s room h k))
             (λ v n. log_releases_other worker s.iter room v (m.sessions v).iter (m.sessions v).item n (m.gates room) (length cs) (m.sessions v).outcome.steps (h.logs room v));
@@ -225,21 +225,21 @@ module _ (op : Operator) (starts : ℕ → State) (first : List Item) where
 
   -- ---- any turn
 
-  body_goes_on : (m : Machine) (worker : ℕ) (a : Ahead) → Sound m → ComesTo (op.plan (m.sessions worker).item) (m.sessions worker) a → IsAskedCall a → Sound (settled m worker (go (place_of m worker) worker a).place)
+  body_goes_on : (m : Machine) (worker : ℕ) (a : Ahead) → Sound m → ComesTo (op.plan (m.sessions worker).item) (m.sessions worker) a → (claim → IsAskedCall a) → Sound (settled m worker (go (place_of m worker) worker a).place)
   body_goes_on m worker (Asks s room call goes_on) h a c =
       answers m worker s room call goes_on (in_way (m.gates room) (entry_of (place_of m worker) worker s room call)) h a.2 (subst (λ item. IsSoFar (op.plan item) s.outcome (Call room call goes_on)) a.2.item a.0) a.1 c refl
   body_goes_on m worker (Ends s) h a c = finishes m worker s h a.2 a.1 (subst (λ item. IsRunOf (op.plan item) s.outcome) a.2.item a.0)
 
-  turns_in : (m : Machine) (worker : ℕ) (p : Phase) → (m.sessions worker).phase ≡ p → Sound m → SoundPhase op (m.sessions worker).item (m.sessions worker).outcome p → AsksCall p
+  turns_in : (m : Machine) (worker : ℕ) (p : Phase) → (m.sessions worker).phase ≡ p → Sound m → SoundPhase op (m.sessions worker).item (m.sessions worker).outcome p → (claim → AsksCall p)
       → Sound (settled m worker (turn_in op (place_of m worker) worker p).place)
   turns_in m worker Idle e h p c = takes m worker (free_item m.book) h p
   turns_in m worker (Running plan) e h p c =
       let s : Session = m.sessions worker in
-      body_goes_on m worker (ahead s plan s.outcome.pushes) h (comes_to (op.plan s.item) s plan s.outcome.pushes p) (next_is_asked s plan s.outcome.pushes c)
+      body_goes_on m worker (ahead s plan s.outcome.pushes) h (comes_to (op.plan s.item) s plan s.outcome.pushes p) (λ by. next_is_asked s plan s.outcome.pushes (c by))
   turns_in m worker Finished e h p c = finishes m worker (m.sessions worker) h (record { iter = refl; item = refl; steps = refl }) e p
   turns_in m worker Undoing e h p c = undoes m worker (m.sessions worker) h (record { iter = refl; item = refl; steps = refl })
 
-  -- each turn of a worker keeps the machine sound, where the call that it asks has numbers of 64 bits
-  pub turn_is_sound : (m : Machine) (worker : ℕ) → AsksCall (m.sessions worker).phase → Sound m → Sound (turn op m worker)
+  -- each turn of a worker keeps the machine sound, where by the claim the call that it asks has numbers of 64 bits
+  pub turn_is_sound : (m : Machine) (worker : ℕ) → (claim → AsksCall (m.sessions worker).phase) → Sound m → Sound (turn op m worker)
   unfolding turn_at
   turn_is_sound m worker c h = turns_in m worker (m.sessions worker).phase refl h (h.sessions worker) c

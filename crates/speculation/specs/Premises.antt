@@ -1,6 +1,5 @@
 -- What the laws of whole runs ask: a machine before its first turn, and calls whose numbers have 64 bits, as those of code have.
 use Rattle.std.specs.Prelude.{◌≡◌, ℕ, zero, suc, true, false, List, [], ◌∷◌, ⊤}
-use Rattle.gx_base.specs.declared.calls.Reply.{Reply}
 use Rattle.gx_base.specs.declared.items.Item.{Item}
 use Rattle.gx_base.specs.Meanings.{IsCall}
 use Rattle.gx_base.specs.Outcomes.{nothing_done}
@@ -32,13 +31,7 @@ pub record IsNew (op : Operator) (m : Machine) : Type 0 where
   pub idle : (worker : ℕ) → (m.sessions worker).phase ≡ Idle
   pub nothing_done : (worker : ℕ) → (m.sessions worker).outcome ≡ nothing_done
 
--- each call of a plan has numbers of 64 bits, whatever the replies
-abbrev pub HasOnlyCalls : Plan → Type 0
-HasOnlyCalls (Call room call goes_on) = IsCall call × ((reply : Reply) → HasOnlyCalls (goes_on reply))
-HasOnlyCalls (Push item rest) = HasOnlyCalls rest
-HasOnlyCalls Done = ⊤
-
--- the next call of a plan, where there is one, has
+-- the next call of a plan, where there is one, has numbers of 64 bits
 abbrev pub IsNextCall : Plan → Type 0
 IsNextCall (Call room call goes_on) = IsCall call
 IsNextCall (Push item rest) = IsNextCall rest

@@ -1,5 +1,5 @@
 -- What every run of the speculative machine gives.
-use Rattle.std.specs.Prelude.{◌≡◌, ◌⊎◌, ℕ, ◌≤◌, true, false, List, [], ◌∷◌, ◌++◌, length}
+use Rattle.std.specs.Prelude.{◌≡◌, ◌⊎◌, ℕ, zero, suc, ◌≤◌, true, false, List, [], ◌∷◌, ◌++◌, length}
 use Rattle.gx_base.specs.declared.acts.Entry.{Entry}
 use Rattle.gx_base.specs.States.{State}
 use Rattle.gx_base.specs.Plans.{Operator}
@@ -14,7 +14,7 @@ use Rattle.speculation.specs.Events.{Event, then_turn}
 use Rattle.speculation.specs.EventRows.{Happens}
 use Rattle.speculation.specs.Sessions.{Session, is_idle}
 use Rattle.speculation.specs.Machines.{Machine}
-use Rattle.speculation.specs.ScheduledRuns.{is_empty, Run, played}
+use Rattle.speculation.specs.ScheduledRuns.{is_empty, Run, begun, drain, played}
 
 -- the states of the objects
 abbrev pub object_states : Machine → ℕ → State
@@ -62,3 +62,14 @@ IsScheduledRun op r (worker ∷ schedule) last =
     ((is_empty r.machine.book.ready ≡ true) × (last ≡ r))
     ⊎ ((is_empty r.machine.book.ready ≡ false) × ((event : Event) × (next : Machine) × Happens op r.machine worker event next
     × IsScheduledRun op (record { machine = next; trace = then_turn r.trace worker event }) schedule last))
+
+-- worker 0 alone: at most so many turns, each of which is an event of the table, while an item is ready
+abbrev pub IsLoneRun : Operator → Machine → ℕ → Machine → Type 0
+IsLoneRun op m zero last = last ≡ m
+IsLoneRun op m (suc turns) last =
+    ((is_empty m.book.ready ≡ true) × (last ≡ m)) ⊎ ((is_empty m.book.ready ≡ false) × ((event : Event) × (next : Machine) × Happens op m 0 event next × IsLoneRun op next turns last))
+
+-- a whole run: the scheduled turns by the table, what the drain makes of them, and worker 0 alone by the table
+abbrev pub IsWholeRun : Operator → Machine → ℕ → List ℕ → ℕ → Run → Type 0
+IsWholeRun op m workers schedule turns last =
+    (r : Run) × IsScheduledRun op (begun m) schedule r × IsLoneRun op (drain r workers).machine turns last.machine × (last.trace ≡ (drain r workers).trace)

@@ -38,7 +38,7 @@ called_0 x = record { worker = 0; way = None; reply = number_reply x }
 abbrev called_1 : ℤ → Given
 called_1 x = record { worker = 1; way = None; reply = number_reply x }
 
-abbrev flow_rows : Rows
+abbrev pub flow_rows : Rows
 flow_rows = rows_chosen flow_tables Precise
 
 abbrev given_six : List Given
@@ -72,11 +72,11 @@ unfolding next_state reply_to inverse observed item_cmp has_item without_item wi
 drained_diamond table h =
     ap (λ r. (drain r 2).trace) (given_run flow_rows (discharge_operator net) given_six [] (begun (diamond table)) (right_six table (λ i first second. h first second i)))
 
-abbrev given_both : List Given
+abbrev pub given_both : List Given
 given_both =
     moved_0 ∷ moved_1 ∷ called_0 (pos 1) ∷ called_1 (pos 1) ∷ called_0 (pos 0) ∷ called_1 (pos 0) ∷ called_0 (pos 1) ∷ called_1 (pos 1) ∷ called_0 (pos 4) ∷ called_1 (pos 4) ∷ called_0 (pos 0) ∷ called_1 (pos 0) ∷ called_0 (pos 0) ∷ called_1 (pos 0) ∷ called_0 (pos 0) ∷ called_1 (pos 0) ∷ moved_0 ∷ moved_1 ∷ moved_0 ∷ moved_1 ∷ called_0 (pos 1) ∷ called_1 (pos 1) ∷ called_0 (pos 1) ∷ called_1 (pos 1) ∷ called_0 (pos 1) ∷ called_1 (pos 1) ∷ called_0 (pos 4) ∷ called_1 (pos 4) ∷ called_0 (pos 0) ∷ called_1 (pos 0) ∷ called_0 (pos 0) ∷ called_1 (pos 0) ∷ called_0 (pos 0) ∷ called_1 (pos 0) ∷ called_0 (pos 0) ∷ called_1 (pos 0) ∷ called_0 (pos 0) ∷ called_1 (pos 0) ∷ moved_0 ∷ moved_1 ∷ []
 
-right_both : (table : RowMap) → row_of table ≡ flow_rows → AllRight flow_rows (discharge_operator net) (begun (diamond table)) given_both
+pub right_both : (table : RowMap) → row_of table ≡ flow_rows → AllRight flow_rows (discharge_operator net) (begun (diamond table)) given_both
 unfolding next_state reply_to inverse observed item_cmp has_item without_item with_item without_items with_items is_least
 right_both table h = (
   (refl, tt),

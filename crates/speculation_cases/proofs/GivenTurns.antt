@@ -1,6 +1,6 @@
 -- Turns whose answers are given: which entry is in the way of a call, and the call's reply.
 use Rattle.std.specs.Prelude.{◌≡◌, ℕ, false, if◌then◌else◌, Option, Some, None, List, [], ◌∷◌, ◌++◌, map, ⊤}
-use Rattle.std.proofs.Common.{◌∙◌, ap}
+use Rattle.std.proofs.Common.{sym, ◌∙◌, ap, subst}
 use Rattle.gx_base.specs.declared.calls.Call.{Call as CallOf}
 use Rattle.gx_base.specs.declared.calls.Reply.{Reply}
 use Rattle.gx_base.specs.declared.acts.Entry.{Entry}
@@ -15,6 +15,7 @@ use Rattle.speculation.specs.Events as event
 use Rattle.speculation.specs.Sessions.{Session, Phase, Idle, Running, Finished, Undoing, with_call, Ahead, Asks, Ends, ahead}
 use Rattle.speculation.specs.Machines.{Place, place_of, reply_in, Turned, take, conflict, live_at, answer, entry_of, undo, finish, go, turn_in, turn_at}
 use Rattle.speculation.specs.ScheduledRuns.{is_empty, Run, then_turned, scheduled}
+use Rattle.speculation.specs.Premises.{AsksCall, ScheduledAsk}
 
 -- a worker's turn, with the place of the first entry in the way of its call, and the reply to it
 pub record Given : Type 0 where
@@ -78,6 +79,11 @@ abbrev pub AllRight : Rows → Operator → Run → List Given → Type 0
 AllRight rows op r [] = ⊤
 AllRight rows op r (g ∷ gs) = TurnRight rows r g × AllRight rows op (then_turned r g.worker (turn_given op r g)) gs
 
+-- each call that such a turn asks has numbers of 64 bits
+abbrev pub AllAsk : Operator → Run → List Given → Type 0
+AllAsk op r [] = ⊤
+AllAsk op r (g ∷ gs) = AsksCall (r.machine.sessions g.worker).phase × AllAsk op (then_turned r g.worker (turn_given op r g)) gs
+
 -- ---- such turns are the machine's
 
 module _ (rows : Rows) (op : Operator) where
@@ -111,3 +117,14 @@ module _ (rows : Rows) (op : Operator) where
   given_run (g ∷ gs) rest r h =
       (λ i. if (h.0).0 i then r else scheduled op (then_turned r g.worker (phases (place_of r.machine g.worker) g.worker (r.machine.sessions g.worker).phase g.way g.reply (h.0).1 i)) (map (λ (x : Given). x.worker) gs ++ rest))
       ∙ given_run gs rest (then_turned r g.worker (turn_given op r g)) h.1
+
+  -- where the calls of those have numbers of 64 bits, and those of the turns after them, all have
+  pub given_ask : (gs : List Given) (rest : List ℕ) (r : Run) → AllRight rows op r gs → AllAsk op r gs → ScheduledAsk op (run_given op r gs) rest → ScheduledAsk op r (map (λ (g : Given). g.worker) gs ++ rest)
+  unfolding turn_at
+  given_ask [] rest r h a later = later
+  given_ask (g ∷ gs) rest r h a later =
+      λ e. (
+        a.0,
+        subst (λ t. ScheduledAsk op (then_turned r g.worker t) (map (λ (x : Given). x.worker) gs ++ rest)) (sym (phases (place_of r.machine g.worker) g.worker (r.machine.sessions g.worker).phase g.way g.reply (h.0).1))
+            (given_ask gs rest (then_turned r g.worker (turn_given op r g)) h.1 a.1 later),
+      )

@@ -23,6 +23,7 @@ use Rattle.speculation.specs.Premises.{IsNewGate, IsNew}
 use Rattle.speculation_cases.specs.Beginnings.{Written, written, HasPreciseRows, new_gate}
 use Rattle.speculation_cases.specs.Diamond.{net, first_numbers, diamond}
 use Rattle.speculation_cases.specs.SmallConflict.{setters, two_setters}
+use Rattle.speculation_cases.specs.NamedReader.{setter_and_reader, one_setter}
 
 -- the numbers have 64 bits
 abbrev pub HaveBits : Written → Type 0
@@ -81,6 +82,18 @@ diamond_is_new table h = record {
 pub setters_are_new : (table : RowMap) → HasPreciseRows cells_tables table → IsNew setters (two_setters table)
 unfolding item_cmp has_item with_item with_items is_least
 setters_are_new table h = record {
+  gates = λ room. begins Cells cells_tables table [] (cells_tables-SuitKind Cells refl) h (holds_numbers Cells [] tt);
+  ordered = refl;
+  in_order = (refl, (refl, tt));
+  no_holds = refl;
+  no_commits = refl;
+  idle = λ worker. refl;
+  nothing_done = λ worker. refl;
+}
+
+pub reader_is_new : (table : RowMap) → HasPreciseRows cells_tables table → IsNew setter_and_reader (one_setter table)
+unfolding item_cmp has_item with_item with_items is_least
+reader_is_new table h = record {
   gates = λ room. begins Cells cells_tables table [] (cells_tables-SuitKind Cells refl) h (holds_numbers Cells [] tt);
   ordered = refl;
   in_order = (refl, (refl, tt));

@@ -1,3 +1,4 @@
 pub mod Beginnings
 pub mod Diamond
 pub mod SmallConflict
+pub mod NamedReader
