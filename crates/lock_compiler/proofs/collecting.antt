@@ -1,0 +1,2 @@
+pub mod LockedNumbers
+pub mod Steps
