@@ -1,4 +1,4 @@
-ghost use Rattle.std.specs.Prelude.{◌≡◌, ◌≤◌, if◌then◌else◌, [], false, length, ◌∷◌, ◌++◌, IsTrue, ◌↔◌, OnOk, OnErr, IfOk};
+ghost use Rattle.std.specs.Prelude.{◌≡◌, ◌≤◌, ℕ, if◌then◌else◌, [], false, length, ◌∷◌, ◌++◌, IsTrue, ◌↔◌, OnOk, OnErr, IfOk};
 ghost use Rattle.gx_base.specs.Outcomes.{journal};
 ghost use Rattle.gx_base.specs.SerialRuns.{all_counted};
 ghost use Rattle.gx_base.specs.Worklists.{has_item, with_items, without_item, without_items};
@@ -44,7 +44,7 @@ impl Model for Book {
 }
 
 impl Book {
-    ghost use Rattle.commit_book.specs.BookViews.{free_item, new_book, next_free, put_back, commit};
+    ghost use Rattle.commit_book.specs.BookViews.{free_item, new_book, next_free, put_back, is_named, commit};
     ghost use Rattle.commit_book.specs.LawfulBooks.{IsLawfulBook, IsRefusedBy};
 
     /// A book with no items, for a place that a book is taken from. It takes no memory.
@@ -75,6 +75,13 @@ impl Book {
             past: Past::new(alloc),
             added: Vec::new(alloc),
         })
+    }
+
+    /// Whether items commit in their order.
+    pub fn ordered(&self) -> bool
+        ensures { result ≡ self.now.ordered }
+    {
+        self.ordered
     }
 
     /// Whether nothing is ready.
@@ -127,6 +134,13 @@ impl Book {
         ensures { self.new ≡ put_back self.old worker iter }
     {
         self.holds.end_iteration(worker, iter);
+    }
+
+    /// No call of a book names an iteration, so none is named. For proofs: it does nothing.
+    pub fn nobody_is_named(&self)
+        ensures { (worker iter : ℕ) → is_named self.now worker iter ≡ false }
+    {
+        self.holds.nobody_is_named();
     }
 
     /// Commits an item with the steps and the pushes of its body, and answers how many had committed before.

@@ -133,15 +133,4 @@ impl Worklist {
     {
         self.items.remove(&item);
     }
-
-    /// Takes out the least item.
-    pub fn take_least(&mut self) -> Option<Item>
-        ensures first { IfSome result (λ item. self.old ≡ item ∷ self.new) }
-        ensures ready { IfSome result (λ item. IsTrue (has_item self.old item)) }
-        ensures least { IfSome result (λ item. IsTrue (is_least self.old item)) }
-        ensures others { IfSome result (λ item. self.new ≡ without_item self.old item) }
-        ensures none { IfNone result ((self.old ≡ []) × (self.new ≡ [])) }
-    {
-        self.items.pop_first()
-    }
 }
