@@ -193,6 +193,3 @@ fn is_free(id: u64, other: Option<u64>) -> bool
         Some(other) => id != other,
     }
 }
-
-#[cfg(test)]
-mod tests;
