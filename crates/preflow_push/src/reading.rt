@@ -153,7 +153,12 @@ impl Seen {
 }
 
 /// Whether a terminal may be told, where this one and the other may have been told before.
-fn may_be_terminal(problem: Option<(u64, u64)>, this: Option<u64>, other: Option<u64>, id: u64) -> bool
+fn may_be_terminal(
+    problem: Option<(u64, u64)>,
+    this: Option<u64>,
+    other: Option<u64>,
+    id: u64,
+) -> bool
     ensures { result ≡ may_be_terminal problem this other id }
 {
     match problem {
