@@ -2,7 +2,7 @@ ghost use Rattle.std.specs.Prelude.{◌≡◌, ◌≤◌, ℕ, if◌then◌else�
 ghost use Rattle.gx_base.specs.Outcomes.{journal};
 ghost use Rattle.gx_base.specs.SerialRuns.{all_counted};
 ghost use Rattle.gx_base.specs.Worklists.{has_item, with_items, without_item, without_items};
-ghost use Rattle.commit_book.specs.BookViews.{most_steps};
+ghost use Rattle.commit_book.specs.BookViews.{most_steps, without_item_held};
 ghost use Rattle.commit_book.specs.LawfulBooks.{AreRising, refusal};
 ghost use Rattle.commit_book.specs.StoredBooks.{whole_commit};
 
@@ -178,8 +178,7 @@ impl Book {
             self.ready.remove_all(self.added.as_slice());
             return Err(CommitRefuse::NoMemory);
         }
-        leave(&mut self.ready, item, pushes);
-        self.holds.end_item(item);
+        leave(&mut self.ready, &mut self.holds, item, pushes);
         Ok(number)
     }
 }
@@ -230,10 +229,12 @@ fn take_in(
     past.append(commit, log, pushes)
 }
 
-// An item that has committed is ready no more, unless its own body has pushed it.
-fn leave(ready: &mut Worklist, item: Item, pushes: &[Item])
-    ensures { ready.new ≡ (if has_item pushes.now item then ready.old else without_item ready.old item) }
+// An item that has committed is held no more, and it is ready no more, unless its own body has pushed it.
+fn leave(ready: &mut Worklist, holds: &mut Holds, item: Item, pushes: &[Item])
+    ensures ready { ready.new ≡ (if has_item pushes.now item then ready.old else without_item ready.old item) }
+    ensures holds { holds.new ≡ without_item_held holds.old item }
 {
+    holds.end_item(item);
     if !is_among(pushes, item) {
         ready.remove(item);
     }

@@ -1,4 +1,4 @@
-ghost use Rattle.std.specs.Prelude.{◌≡◌, ◌↔◌, ℕ, [], ◌∷◌, take, IsTrue, IfSome, IfNone, OnOk, OnErr};
+ghost use Rattle.std.specs.Prelude.{◌≡◌, ◌↔◌, ℕ, [], take, IsTrue, IfSome, IfNone, OnOk, OnErr};
 ghost use Rattle.gx_base.specs.Worklists.{has_item, is_least, with_item, with_items, without_item, without_items};
 ghost use Rattle.commit_book.specs.BookViews.{first_free};
 ghost use Rattle.commit_book.specs.LawfulBooks.{AreRising, least_before};
