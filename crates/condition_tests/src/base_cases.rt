@@ -1,6 +1,6 @@
 //! What no clause says: that calls succeed, and values worked by hand.
 
-use crate::{
+use gx_base::{
     Call, Cond, Kind, Made, NoMemory, Part, Reply, Seen, Side, Spot, Table, Term, beyond, eval,
     method_at, method_of, word_of,
 };

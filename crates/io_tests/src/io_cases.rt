@@ -2,7 +2,7 @@
 
 ghost use Rattle.std.specs.Prelude.{◌≤◌};
 
-use crate::{MemFiles, MemSink, NeverFails, StdFiles, StdSink, read_whole, write_whole};
+use gx_io::{MemFiles, MemSink, NeverFails, StdFiles, StdSink, read_whole, write_whole};
 use std::alloc::{AllocError, Global};
 use std::fs;
 use std::test::Fail;

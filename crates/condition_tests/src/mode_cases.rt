@@ -1,8 +1,8 @@
 //! What no clause says: that calls succeed, and values worked by hand.
 
-use crate::laws::{calls_clash_where_rows_are_false, reduced_modes_clash_alike};
-use crate::{CompileRefuse, Modes, compile, reduce};
 use gx_base::{Cond, Kind, NoMemory, Side, Table, Term};
+use lock_compiler::laws::{calls_clash_where_rows_are_false, reduced_modes_clash_alike};
+use lock_compiler::{CompileRefuse, Modes, compile, reduce};
 use std::alloc::Global;
 use std::test::Fail;
 

@@ -1,6 +1,6 @@
 //! What no clause says: that calls succeed, what `tidy` drops, and values worked by hand.
 
-use crate::NumberRows;
+use number_rows::NumberRows;
 use std::test::Fail;
 
 #[test]

@@ -1,5 +1,6 @@
-use super::*;
-use std::test::*;
+//! Lines, fields and numbers, by hand.
+
+use text_lines::{first_line, is_blank, next_field, number};
 
 /// Whether the lines of a text are these.
 fn has_lines(text: &[u8], lines: &[&[u8]]) -> bool {

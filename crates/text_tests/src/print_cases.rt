@@ -1,6 +1,6 @@
-//! Texts written by hand.
+//! What is printed of conditions and tables, by hand.
 
-use crate::{print_cond, print_table};
+use cond_print::{print_cond, print_table};
 use gx_base::{Cond, Kind, NoMemory, Part, Side, Table, Term};
 use std::alloc::Global;
 use std::test::Fail;
@@ -47,13 +47,16 @@ fn with_one(alloc: Global, term: Term, text: &str) -> Result<bool, NoMemory> {
 
 #[test]
 fn comparisons(rt: HostRuntime) -> Result<(), Fail> {
-    let alloc = rt.alloc();
-    assert!(rt; is_printed(alloc, &Cond::True, "true")?);
-    assert!(rt; is_printed(alloc, &Cond::False, "false")?);
-    assert!(rt; is_printed(alloc, &SAME, "a1 = a2")?);
-    assert!(rt; is_printed(alloc, &APART, "a1 != a2")?);
-    assert!(rt; is_printed(alloc, &BEFORE, "a1 < a2")?);
-    assert!(rt; is_printed(alloc, &Cond::Le(A2, A1), "a2 <= a1")?);
+    for (cond, text) in [
+        (Cond::True, "true"),
+        (Cond::False, "false"),
+        (SAME, "a1 = a2"),
+        (APART, "a1 != a2"),
+        (BEFORE, "a1 < a2"),
+        (Cond::Le(A2, A1), "a2 <= a1"),
+    ] {
+        assert!(rt; is_printed(rt.alloc(), &cond, text)?, "{text}");
+    }
     Ok(())
 }
 
@@ -74,12 +77,21 @@ fn terms(rt: HostRuntime) -> Result<(), Fail> {
     ] {
         assert!(rt; with_one(alloc, Term::Value(side, place), text)?, "{text}");
     }
+    Ok(())
+}
+
+#[test]
+fn functions_of_both_calls(rt: HostRuntime) -> Result<(), Fail> {
     let far = Term::Beyond(Part::ArgFirst, Part::ArgSecond, Part::RepFirst);
-    assert!(rt; with_one(alloc, far, "beyond(arg1, arg2, rep1) = 1")?);
     let near = Term::Beyond(Part::RepSecond, Part::RepSecond, Part::ArgFirst);
-    assert!(rt; with_one(alloc, near, "beyond(rep2, rep2, arg1) = 1")?);
-    assert!(rt; with_one(alloc, Term::State(Side::First), "dom1 = 1")?);
-    assert!(rt; with_one(alloc, Term::State(Side::Second), "dom2 = 1")?);
+    for (term, text) in [
+        (far, "beyond(arg1, arg2, rep1) = 1"),
+        (near, "beyond(rep2, rep2, arg1) = 1"),
+        (Term::State(Side::First), "dom1 = 1"),
+        (Term::State(Side::Second), "dom2 = 1"),
+    ] {
+        assert!(rt; with_one(rt.alloc(), term, text)?, "{text}");
+    }
     Ok(())
 }
 
@@ -98,44 +110,61 @@ fn constants(rt: HostRuntime) -> Result<(), Fail> {
     Ok(())
 }
 
-#[test]
-fn parentheses_under_and(rt: HostRuntime) -> Result<(), Fail> {
-    let alloc = rt.alloc();
-    let left = and(alloc, or(alloc, SAME, APART)?, BEFORE)?;
-    assert!(rt; is_printed(alloc, &left, "(a1 = a2 or a1 != a2) and a1 < a2")?);
-    let right = and(alloc, SAME, or(alloc, APART, BEFORE)?)?;
-    assert!(rt; is_printed(alloc, &right, "a1 = a2 and (a1 != a2 or a1 < a2)")?);
-    let left_and = and(alloc, and(alloc, SAME, APART)?, BEFORE)?;
-    assert!(rt; is_printed(alloc, &left_and, "a1 = a2 and a1 != a2 and a1 < a2")?);
-    let right_and = and(alloc, SAME, and(alloc, APART, BEFORE)?)?;
-    assert!(rt; is_printed(alloc, &right_and, "a1 = a2 and (a1 != a2 and a1 < a2)")?);
-    Ok(())
+/// Takes the last condition off.
+fn last(stack: &mut Vec<Cond>) -> Cond {
+    match stack.pop() {
+        Some(cond) => cond,
+        None => Cond::False,
+    }
 }
 
-#[test]
-fn parentheses_under_or(rt: HostRuntime) -> Result<(), Fail> {
-    let alloc = rt.alloc();
-    let left = or(alloc, or(alloc, SAME, APART)?, BEFORE)?;
-    assert!(rt; is_printed(alloc, &left, "a1 = a2 or a1 != a2 or a1 < a2")?);
-    let right = or(alloc, SAME, or(alloc, APART, BEFORE)?)?;
-    assert!(rt; is_printed(alloc, &right, "a1 = a2 or (a1 != a2 or a1 < a2)")?);
-    let ands = or(alloc, and(alloc, SAME, APART)?, and(alloc, APART, BEFORE)?)?;
-    assert!(rt; is_printed(alloc, &ands, "a1 = a2 and a1 != a2 or a1 != a2 and a1 < a2")?);
-    Ok(())
+/// A condition in postfix order: `=`, `#` and `<` compare `a1` with `a2`, `T` is true, and `!`, `&` and `|` join.
+fn condition(alloc: Global, signs: &str) -> Result<Cond, NoMemory> {
+    let mut stack = Vec::new(alloc);
+    for sign in signs.as_bytes() {
+        let right = match *sign {
+            b'=' => SAME,
+            b'#' => APART,
+            b'<' => BEFORE,
+            b'T' => Cond::True,
+            _ => last(&mut stack),
+        };
+        let whole = match *sign {
+            b'!' => not(alloc, right)?,
+            b'&' => and(alloc, last(&mut stack), right)?,
+            b'|' => or(alloc, last(&mut stack), right)?,
+            _ => right,
+        };
+        stack.push(whole)?;
+    }
+    Ok(last(&mut stack))
 }
 
+/// Conditions, and how they are printed.
+const PARENTHESES: [(&str, &str); 12] = [
+    ("=#|<&", "(a1 = a2 or a1 != a2) and a1 < a2"),
+    ("=#<|&", "a1 = a2 and (a1 != a2 or a1 < a2)"),
+    ("=#&<&", "a1 = a2 and a1 != a2 and a1 < a2"),
+    ("=#<&&", "a1 = a2 and (a1 != a2 and a1 < a2)"),
+    ("=#|<|", "a1 = a2 or a1 != a2 or a1 < a2"),
+    ("=#<||", "a1 = a2 or (a1 != a2 or a1 < a2)"),
+    ("=#&#<&|", "a1 = a2 and a1 != a2 or a1 != a2 and a1 < a2"),
+    ("=!", "not a1 = a2"),
+    ("T!!", "not not true"),
+    ("=#|!", "not (a1 = a2 or a1 != a2)"),
+    ("=#&!", "not (a1 = a2 and a1 != a2)"),
+    ("=!#!&", "not a1 = a2 and not a1 != a2"),
+];
+
 #[test]
-fn parentheses_under_not(rt: HostRuntime) -> Result<(), Fail> {
+fn parentheses_stand_where_they_are_needed(rt: HostRuntime) -> Result<(), Fail> {
     let alloc = rt.alloc();
-    assert!(rt; is_printed(alloc, &not(alloc, SAME)?, "not a1 = a2")?);
-    let twice = not(alloc, not(alloc, Cond::True)?)?;
-    assert!(rt; is_printed(alloc, &twice, "not not true")?);
-    let of_or = not(alloc, or(alloc, SAME, APART)?)?;
-    assert!(rt; is_printed(alloc, &of_or, "not (a1 = a2 or a1 != a2)")?);
-    let of_and = not(alloc, and(alloc, SAME, APART)?)?;
-    assert!(rt; is_printed(alloc, &of_and, "not (a1 = a2 and a1 != a2)")?);
-    let inside = and(alloc, not(alloc, SAME)?, not(alloc, APART)?)?;
-    assert!(rt; is_printed(alloc, &inside, "not a1 = a2 and not a1 != a2")?);
+    for (signs, text) in PARENTHESES {
+        assert!(rt;
+            is_printed(alloc, &condition(alloc, signs)?, text)?,
+            "{text}"
+        );
+    }
     Ok(())
 }
 
@@ -164,13 +193,17 @@ contains contains : true
 fn tables(rt: HostRuntime) -> Result<(), Fail> {
     let alloc = rt.alloc();
     let mut table = Table::blank(alloc);
-    table.put(2, 2, Cond::True)?;
-    table.put(1, 2, APART)?;
-    table.put(0, 2, apart_or_idle(alloc)?)?;
-    table.put(0, 1, APART)?;
-    table.put(0, 0, apart_or_idle(alloc)?)?;
-    // A row of another kind's method.
-    table.put(0, 8, Cond::True)?;
+    // The last is a row of another kind's method.
+    for (first, second, cond) in [
+        (2, 2, Cond::True),
+        (1, 2, APART),
+        (0, 2, apart_or_idle(alloc)?),
+        (0, 1, APART),
+        (0, 0, apart_or_idle(alloc)?),
+        (0, 8, Cond::True),
+    ] {
+        table.put(first, second, cond)?;
+    }
     assert!(rt; print_table(alloc, Kind::Set, &table)?.as_str() == SET_TEXT);
     Ok(())
 }

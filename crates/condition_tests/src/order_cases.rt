@@ -5,11 +5,12 @@ ghost use Rattle.gx_base.specs.declared.conditions.Side.TheVariants.{First, Seco
 ghost use Rattle.gx_base.specs.declared.conditions.Term.TheVariants.{Value as ValueTerm};
 ghost use Rattle.gx_base.specs.Conditions.{condition_of, Ne as NeCondition, And as AndCondition};
 
-use crate::decisions::{is_derived, is_derived_apart};
-use crate::laws::{
+use cond_lattice::laws::{
     below_keeps_out_general_rows, simple_holds_by_its_inequalities, table_grade_is_greatest,
 };
-use crate::{Grade, below, class, join, meet, row_below, simple_below, strengthen, table_class};
+use cond_lattice::{
+    Grade, below, class, join, meet, row_below, simple_below, strengthen, table_class,
+};
 use gx_base::{Cond, Kind, NoMemory, Side, Table, Term};
 use std::alloc::Global;
 use std::test::Fail;
@@ -179,22 +180,5 @@ fn full_trees_are_decided_soon(rt: HostRuntime) -> Result<(), Fail> {
     assert!(rt; row_below(&lower, &or(alloc, upper, number(1))?));
     let large = doubled(alloc, or(alloc, number(2), number(3))?, 12, true)?;
     assert!(rt; row_below(&number(3), &large) && !row_below(&number(4), &large));
-    Ok(())
-}
-
-/// Whether the rows and the plain rules say this of c and d.
-fn is_told(c: &Cond, d: &Cond, answer: bool) -> bool {
-    is_derived(c, d) == answer && is_derived_apart(c, d) == answer
-}
-
-#[test]
-fn plain_rules_decide_alike(rt: HostRuntime) -> Result<(), Fail> {
-    let alloc = rt.alloc();
-    let either = doubled(alloc, or(alloc, number(1), number(2))?, 4, true)?;
-    let both = doubled(alloc, and(alloc, number(2), number(3))?, 4, false)?;
-    let wider = or(alloc, both.copy(alloc)?, either.copy(alloc)?)?;
-    assert!(rt; is_told(&either, &either, true) && is_told(&either, &both, false));
-    assert!(rt; is_told(&both, &either, true) && is_told(&either, &wider, true));
-    assert!(rt; is_told(&wider, &either, true) && is_told(&wider, &both, false));
     Ok(())
 }
