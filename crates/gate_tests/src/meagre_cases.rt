@@ -1,6 +1,6 @@
 //! What no clause says: that calls succeed, and what they answer where memory runs out.
-use crate::laws::shipped_tables_serve_gates;
-use crate::{Entry, Gate, GateRefuse, ScanScreen, Told};
+use gate_core::laws::shipped_tables_serve_gates;
+use gate_core::{Entry, Gate, GateRefuse, ScanScreen, Told};
 use gx_base::{Call, Choice, Cond, Item, Kind, NoMemory, Reply, Seen, SeqType, Table};
 use std::alloc::Global;
 use std::test::Fail;
@@ -28,7 +28,7 @@ impl SeqType for Meagre {
     ghost use Rattle.gx_base.specs.SetKind.{IsMark};
     ghost use Rattle.gx_base.specs.ShippedTables.{false_rows};
     ghost use Rattle.gx_base.specs.States.{row_cmp};
-    ghost use Rattle.gate_core.specs.EmptySetMethods.{foreign_high};
+    ghost use Rattle.gate_tests.specs.EmptySetMethods.{foreign_high};
     ghost use Rattle.std.proofs.Common.{subst, sym, true≢false};
     ghost use Rattle.std.specs.FinMap as map;
 
