@@ -1,12 +1,10 @@
-ghost use Rattle.std.specs.Prelude.{◌≡◌, ◌↔◌, not, pos, IsTrue};
+ghost use Rattle.std.specs.Prelude.{◌≡◌, not, pos, position};
 ghost use Rattle.gx_base.specs.declared.calls.Seen.{Seen};
 ghost use Rattle.gx_base.specs.Conditions.{holds};
 ghost use Rattle.gx_base.specs.Kinds.{kind_number};
-ghost use Rattle.gx_base.specs.States.{State};
 ghost use Rattle.gx_base.specs.TableRows.{row_of};
 ghost use Rattle.gx_base.specs.Tables.{KeepsToKind};
 ghost use Rattle.gate_core.specs.Entries.{made_of};
-ghost use Rattle.gate_core.specs.Replays.{AllSawRight, IsFirstFailing};
 ghost use Rattle.gate_core.specs.Scans.{log_ok};
 
 use crate::clashing::{are_methods_of, calls_clash};
@@ -72,20 +70,12 @@ impl LockScreen {
         !same_iteration && self.exclude(&made(held), &made(asked))
     }
 
-    // The first entry that is in the way, and what it saw, as no simple row asks.
-    fn first_in_the_way(&self, live: &[Entry], asked: &Entry) -> Option<(usize, Seen)>
+    // The place of the first entry that is in the way.
+    fn first_in_the_way(&self, live: &[Entry], asked: &Entry) -> Option<usize>
         requires { KeepsToKind self.now.kind (row_of self.now.table) }
-        ensures { (s : State) → AllSawRight (row_of self.now.table) s live.now
-            → IsFirstFailing (row_of self.now.table) s live.now asked.now result }
+        ensures { result ≡ position (λ held. not (log_ok (row_of self.now.table) held asked.now)) live.now }
     {
-        // With a field read, what holds of every screen is known here.
-        let _kind = &self.kind;
-        for (place, held) in live.iter().enumerate() {
-            if self.is_in_the_way(held, asked) {
-                return Some((place, seen_by(held)));
-            }
-        }
-        None
+        live.iter().position(|held| self.is_in_the_way(held, asked))
     }
 }
 
@@ -114,7 +104,10 @@ impl<T: SeqType> Screen<T> for LockScreen {
         _table: &Table,
         asked: &Entry,
     ) -> Option<(usize, Seen)> {
-        self.first_in_the_way(live, asked)
+        // A proof knows what holds of every screen where one of its fields is read.
+        let _kind = &self.kind;
+        let place = self.first_in_the_way(live, asked)?;
+        Some((place, seen_by(&live[place])))
     }
 
     fn entered(&mut self, _entry: &Entry) {}
