@@ -1,0 +1,4 @@
+pub mod HandedOut
+pub mod RoomsViews
+pub mod ValueViews
+pub mod Values
