@@ -10,10 +10,10 @@ abbrev pub is_ordered : Origin → Bool
 is_ordered (OfGate start kind table) = false
 is_ordered (OfBook ready ordered) = ordered
 
--- a value that may stand in a room: a book, ordered as the rooms tell, exactly in the last one
-pub record Suits {V : Type 0} (view : RoomsView V) (room : ℕ) (seen : RoomView) : Type 0 where
-  pub book : is_book seen.origin ≡ (room == view.book)
-  pub ordered : is_book seen.origin ≡ true → is_ordered seen.origin ≡ view.ordered
+-- a value that may stand in a room: it is a book exactly in the book's room, and is then ordered as the rooms tell
+pub record Suits (book : ℕ) (ordered : Bool) (room : ℕ) (seen : RoomView) : Type 0 where
+  pub book_where : is_book seen.origin ≡ (room == book)
+  pub ordered_as : is_book seen.origin ≡ true → is_ordered seen.origin ≡ ordered
 
 -- ---- what is handed out
 
@@ -29,7 +29,7 @@ IsTold (Some told) value = value ≡ told
 
 -- a value that is handed out
 pub record IsHandedOut {V : Type 0} (tells : V → RoomView) (view : RoomsView V) (room : ℕ) (value : V) : Type 0 where
-  pub suits : Suits view room (tells value)
+  pub suits : Suits view.book view.ordered room (tells value)
   pub live : is_book (tells value).origin ≡ false → entries_for view.acts_for (tells value).live ≡ view.live room
   pub mark : is_book (tells value).origin ≡ false → holds_book view ≡ true → (tells value).mark ≤ greatest_mark view room
   pub told : IsTold (view.told room) value
@@ -56,6 +56,6 @@ pub record MayHaveCommits {V : Type 0} (view : RoomsView V) (commits : List Whol
 
 -- a value that may be left in a held room
 pub record MayBeLeft {V : Type 0} (view : RoomsView V) (room : ℕ) (seen : RoomView) : Type 0 where
-  pub suits : Suits view room seen
+  pub suits : Suits view.book view.ordered room seen
   pub mark : is_book seen.origin ≡ false → MayHaveMark view room seen.mark
   pub commits : is_book seen.origin ≡ true → MayHaveCommits view seen.commits
