@@ -1,9 +1,8 @@
 -- What rooms tell their caller, and what entering and leaving one make of it.
-use Rattle.std.specs.Prelude.{◌≡◌, ◌⊎◌, ℕ, ◌+◌, ◌<◌, ◌≤◌, min, Bool, true, false, ◌&&◌, ◌==◌, if◌then◌else◌, Option, Some, None, List, length, filter, is_some}
+use Rattle.std.specs.Prelude.{ℕ, ◌+◌, Bool, true, false, ◌&&◌, ◌==◌, if◌then◌else◌, Option, Some, None, List, length, filter, is_some}
 use Rattle.gx_base.specs.declared.acts.Entry.{Entry}
-use Rattle.gx_base.specs.Outcomes.{WholeCommit}
 use Rattle.gx_base.specs.Replays.{put}
-use Rattle.gx_base.specs.RoomViews.{RoomView, Origin, OfGate, OfBook, is_book}
+use Rattle.gx_base.specs.RoomViews.{RoomView}
 
 -- The rooms are numbered from 0, and the last one is the book's. Functions from numbers are over rooms, but for `acts_for`,
 -- which is over workers.
