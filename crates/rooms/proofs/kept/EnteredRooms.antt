@@ -77,6 +77,7 @@ module _ {V : Type 0} (tells : V → RoomView) (view : RoomsView V) (values : Li
 told_there : {V : Type 0} (tells : V → RoomView) (view : RoomsView V) (values : List V) (room : ℕ) (value : V) → AreKept tells view values → room ≤ view.book → is_held view room ≡ false → value ≡ get_or values room value → view.told room ≡ Some value
 told_there tells view values room value k in_range free is =
     k.home room free ∙ slice_get_read values (length values) room value refl (let n : length values ≡ view.book + 1 = k.size in omega arith) is
+
 pub handed_out : {V : Type 0} (tells : V → RoomView) (view : RoomsView V) (values : List V) (room : ℕ) (value : V) → AreKept tells view values → room ≤ view.book → is_held view room ≡ false → value ≡ get_or values room value → IsHandedOut tells view room value
 handed_out tells view values room value k in_range free is =
     value_handed_out tells view values k room value free (told_there tells view values room value k in_range free is)
