@@ -1,3 +1,4 @@
 pub mod CallerLemmas
 mod kept
 mod puts
+mod visits

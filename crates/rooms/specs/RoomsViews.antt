@@ -74,11 +74,16 @@ abbrev pub told_with : {V : Type 0} → Option V → V → Option V
 told_with None value = None
 told_with (Some old) value = Some value
 
--- the value is the room's, and the caller holds the room no more
-abbrev pub left : {V : Type 0} → (V → RoomView) → RoomsView V → ℕ → V → RoomsView V
-left tells view room value = record view {
+-- the room has this value
+abbrev pub with_value : {V : Type 0} → (V → RoomView) → RoomsView V → ℕ → V → RoomsView V
+with_value tells view room value = record view {
   live = put view.live room (entries_for view.acts_for (tells value).live);
+  told = put view.told room (told_with (view.told room) value);
+}
+
+-- the room has this value, and the caller holds it no more
+abbrev pub left : {V : Type 0} → (V → RoomView) → RoomsView V → ℕ → V → RoomsView V
+left tells view room value = record (with_value tells view room value) {
   held = put view.held room None;
   released = released_with view room (tells value).mark;
-  told = put view.told room (told_with (view.told room) value);
 }
