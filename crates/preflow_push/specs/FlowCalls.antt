@@ -1,5 +1,5 @@
 -- The calls of a flow shard, and the rooms of nodes and arcs.
-use Rattle.std.specs.Prelude.{ℕ, ◌+◌, ℤ, pos, unsigned_abs}
+use Rattle.std.specs.Prelude.{ℕ, ℤ, pos, unsigned_abs}
 use Rattle.std.specs.Int.{w64, int_wrapping_neg, int_rem_euclid}
 use Rattle.gx_base.specs.declared.calls.Call.{Call}
 pub use Rattle.gx_base.specs.FlowKind.{height_method, relabel_method, excess_method, gain_method, flow_method, send_method}

@@ -1,6 +1,6 @@
 -- How large a network may be that is read, and what a text calls for: a network, or the limit that it passes, or the
 -- line of its first fault.
-use Rattle.std.specs.Prelude.{◌≡◌, ℕ, ◌≤◌, ◌<◌, ℤ, pos, ◌≤ℤ◌, ◌<ℤ◌, int_le, nat_le, if◌then◌else◌, List, length, Result, Ok, Err}
+use Rattle.std.specs.Prelude.{◌≡◌, ℕ, ◌≤◌, ◌<◌, pos, ◌≤ℤ◌, ◌<ℤ◌, int_le, nat_le, if◌then◌else◌, List, length, Result, Ok, Err}
 use Rattle.text_lines.specs.Lines.{lines_of}
 use Rattle.gx_base.specs.declared.inputs.What.{What}
 use Rattle.gx_base.specs.declared.inputs.What.TheVariants.{Nodes, Arcs}

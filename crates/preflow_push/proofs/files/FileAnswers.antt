@@ -1,5 +1,5 @@
 -- What the reader answers is what the text calls for.
-use Rattle.std.proofs.Common.{◌≡◌, ℕ, ◌<◌, ◌≤◌, ◌⊎◌, ℤ, Bool, true, false, cond, List, length, Result, Ok, Err, refl, sym, ap, subst, ◌∙◌, inl, inr, arith}
+use Rattle.std.proofs.Common.{◌≡◌, ℕ, ◌<◌, ◌⊎◌, ℤ, Bool, true, false, cond, List, length, Result, Ok, Err, refl, sym, ap, subst, ◌∙◌, inl, inr, arith}
 use Rattle.std.specs.Prelude.{pos, ◌≤ℤ◌, ◌<ℤ◌, int_le, nat_le}
 use Rattle.std.proofs.lemmas.Bool.{leb-true}
 use Rattle.std.proofs.lemmas.Bool.Decides.{nat_tests}
@@ -11,7 +11,7 @@ use Rattle.gx_base.specs.declared.inputs.InputFault.{InputFault}
 use Rattle.gx_base.specs.declared.inputs.InputFault.TheVariants.{Line, Large, NoMemory}
 use Rattle.preflow_push.specs.declared.network.Network.{Network}
 use Rattle.preflow_push.specs.Networks.{Net, view}
-use Rattle.preflow_push.specs.FlowFiles.{AreFlow, IsFlowFile, IsFirstFault}
+use Rattle.preflow_push.specs.FlowFiles.{IsFlowFile}
 use Rattle.preflow_push.specs.FlowLimits.{most_nodes, most_arcs, IsWithinLimits, Passes, IsReadable, IsTooLarge, CallsFor, CallsForOne, answer_of, sized}
 use Rattle.preflow_push.specs.FlowReading.{flow_of, AnswersReading}
 use Rattle.preflow_push.proofs.files.FirstFaults.{read_flow, flow_is_read, first_fault, one_fault, no_fault}

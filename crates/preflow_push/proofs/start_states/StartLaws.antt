@@ -1,23 +1,21 @@
 -- The start, in plain words.
-use Rattle.std.specs.Prelude.{◌≡◌, ◌↔◌, ℕ, zero, suc, ◌+◌, ◌*◌, ◌<◌, ◌≤◌, ◌^◌, ℤ, pos, negsuc, ◌+ℤ◌, ◌-ℤ◌, neg_ℤ, ◌≤ℤ◌, ◌<ℤ◌, Bool, true, false, not, ◌&&◌, ◌||◌, nat_eq, if◌then◌else◌, List, [], ◌∷◌, length, map, Contains, FitsSigned, int_lt, int_le, refl}
-use Rattle.std.proofs.Common.{sym, ◌∙◌, ap, subst, arith, eqb-true}
-use Rattle.std.proofs.lemmas.Int.{ints, int_wrap_fits, SFits-int_wrap, int_wrap-add_left, int_wrap-add_right, wrapping_add_is, wrapping_neg_is}
-use Rattle.std.proofs.lemmas.Bool.{and_parts}
+use Rattle.std.specs.Prelude.{◌≡◌, ℕ, suc, ◌<◌, ◌≤◌, ℤ, pos, ◌+ℤ◌, ◌-ℤ◌, neg_ℤ, Bool, true, false, nat_eq, if◌then◌else◌, List, [], ◌∷◌, FitsSigned, refl}
+use Rattle.std.proofs.Common.{sym, ◌∙◌, ap, subst, arith}
+use Rattle.std.proofs.lemmas.Int.{ints, SFits-int_wrap, int_wrap-add_left, int_wrap-add_right, wrapping_add_is, wrapping_neg_is}
 use Rattle.std.proofs.lemmas.Bool.Decides.{nat_tests}
 use Rattle.std.specs.List.{AllByRecursion}
 use Rattle.std.specs.Cmp.{signed_Decides}
-use Rattle.std.specs.Int.{w64, int_wrap, int_wrapping_add, int_wrapping_neg}
+use Rattle.std.specs.Int.{w64, int_wrap, int_wrapping_add}
 use Rattle.std.specs.Ordering.{int_eq}
-use Rattle.gx_base.specs.declared.items.Item.{Item}
 use Rattle.gx_base.specs.FlowKind.{height_sort, excess_sort, flow_sort}
 use Rattle.gx_base.specs.States.{State, number_at, with_number}
-use Rattle.gx_base.proofs.CallerLemmas.{same_row, same_row-sort, number_at-same, same_int}
+use Rattle.gx_base.proofs.CallerLemmas.{same_row-sort, number_at-same}
 use Rattle.preflow_push.specs.declared.network.Arc.{Arc}
 use Rattle.preflow_push.specs.Networks.{Net}
 use Rattle.preflow_push.specs.FlowCalls.{room_of, minus}
 use Rattle.preflow_push.specs.FlowStates.{height_in, excess_in, flow_in}
-use Rattle.preflow_push.specs.Starts.{set_in, with_height, with_gain, with_flow, filled, filled_from, poured, empty_rooms, start_states, start_ready}
-use Rattle.preflow_push.specs.StartLaw.{carried, AreCarried, brought, balance, IsOfExcess, IsStart}
+use Rattle.preflow_push.specs.Starts.{set_in, with_height, with_gain, with_flow, filled, filled_from, poured, empty_rooms, start_states}
+use Rattle.preflow_push.specs.StartLaw.{carried, AreCarried, brought, balance}
 use Rattle.preflow_push.proofs.start_states.FlowWrites.{set_in-other, gain-other, flow_in-filled, nothing_at_first}
 
 -- ---- a write is seen in its row

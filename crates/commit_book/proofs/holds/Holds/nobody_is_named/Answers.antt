@@ -1,4 +1,4 @@
-use Rattle.std.proofs.Common.{◌≡◌, ◌∙◌, sym, ap, ℕ, false}
+use Rattle.std.proofs.Common.{◌∙◌, sym, ap}
 use Rattle.commit_book.specs.BookViews.{is_named_in}
 use Rattle.commit_book.proofs.books.HoldLists.{kept-unnamed}
 use Rattle.commit_book.proofs.holds.Holds.nobody_is_named.Goals as goal
