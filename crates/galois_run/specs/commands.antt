@@ -1,2 +1,3 @@
 pub mod Flow
+pub mod ModeLines
 pub mod Classify
