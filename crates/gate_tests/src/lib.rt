@@ -8,6 +8,8 @@ mod gate_cases;
 #[cfg(test)]
 mod lock_cases;
 #[cfg(test)]
+mod meagre_cases;
+#[cfg(test)]
 mod model;
 #[cfg(test)]
 mod model_runs;
