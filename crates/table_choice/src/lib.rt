@@ -9,7 +9,9 @@
 mod choices;
 mod refusals;
 mod run_tables;
+mod screens;
 
 pub use choices::choice_named;
 pub use refusals::TableRefuse;
 pub use run_tables::{accepted_table, table_of_run};
+pub use screens::{AnyScreen, screen_for};
