@@ -1,7 +1,12 @@
 ghost use Rattle.std.specs.Prelude.{◌≡◌, ◌≢◌, ℕ, Err, [], ◌∷◌, IsTrue, IfOk, IsSomeAnd, option_map};
+ghost use Rattle.gx_base.specs.declared.kinds.Choice.{Choice};
+ghost use Rattle.gx_base.specs.Below.{AreBelow};
 ghost use Rattle.gx_base.specs.Kinds.{kind_number};
+ghost use Rattle.gx_base.specs.ShippedTables.{rows_chosen};
 ghost use Rattle.gx_base.specs.TableRows.{RowMap, row_of};
 ghost use Rattle.gx_base.specs.Tables.{IsValid, KeepsToKind};
+ghost use Rattle.cond_lattice.specs.declared.grades.Grade.TheVariants.{General};
+ghost use Rattle.cond_lattice.specs.Grades.{table_grade};
 ghost use Rattle.cond_syntax.specs.TableTexts.{IsTableText};
 ghost use Rattle.table_choice.specs.RunTables.{IsAccepted, IsFaultyText, IsAbove, RefusesWhere, MayServe, IsTableOfRun, GivesTable};
 ghost use Rattle.table_choice.specs.RunTables as tables;
@@ -53,6 +58,7 @@ pub fn accepted_table(
     ensures accepted { IfOk result (IsAccepted kind (row_of upper.now) bytes.now) }
     ensures line { (line : ℕ) → RefusesWhere (IsFaultyText kind bytes.now line) (refusals.Line line) result }
     ensures pair { (first second : ℕ) → RefusesWhere (IsAbove kind (row_of upper.now) bytes.now first second) (refusals.NotBelow first second) result }
+    ensures below { IfOk result (λ table. AreBelow (row_of table) (row_of upper.now)) }
     ensures serves { IsValid (kind_number kind) (row_of upper.now) → IfOk result (λ table. MayServe (kind_number kind) (row_of table)) }
 {
     let table = read_of_kind(alloc, kind, bytes)?;
@@ -75,9 +81,11 @@ pub fn table_of_run<T: SeqType>(
     requires { IsTrue (T.holds_kind kind) }
     ensures table { IfOk result (IsTableOfRun kind (T.tables kind) choice (option_map (λ bytes. bytes.now) conditions.entry)) }
     ensures serves { IfOk result (λ table. MayServe (kind_number kind) (row_of table)) }
+    ensures class { ((shipped : Choice) → table_grade (kind_number kind) (rows_chosen (T.tables kind) shipped) ≢ General) → IfOk result (λ table. table_grade (kind_number kind) (row_of table) ≢ General) }
     ensures line { (line : ℕ) → RefusesWhere (IsSomeAnd (option_map (λ bytes. bytes.now) conditions.entry) (λ bytes. IsFaultyText kind bytes line)) (refusals.Line line) result }
     ensures pair { (first second : ℕ) → RefusesWhere (IsSomeAnd (option_map (λ bytes. bytes.now) conditions.entry) (λ bytes. IsAbove kind (T.tables kind).precise bytes first second)) (refusals.NotBelow first second) result }
 {
+    cond_lattice::laws::below_keeps_out_general_rows();
     match conditions {
         None => Ok(T::shipped(alloc, kind, choice)?),
         Some(bytes) => {

@@ -1,6 +1,5 @@
 -- When a table that a user wrote is refused.
-use Rattle.std.proofs.Common.{◌≡◌, ◌⊎◌, inl, inr, ℕ, ◌<◌, List, [], ◌∷◌, Ok, Err, Result, refl, sym, ap, ◌∙◌, subst, arith}
-use Rattle.std.proofs.lemmas.Bool.{cases_lt}
+use Rattle.std.proofs.Common.{◌≡◌, inl, inr, ℕ, ◌<◌, List, [], ◌∷◌, Ok, Err, refl, sym, ap, subst, arith}
 use Rattle.gx_base.specs.declared.kinds.Kind.{Kind}
 use Rattle.gx_base.specs.Kinds.{kind_number}
 use Rattle.gx_base.specs.TableRows.{RowMap, row_of}
@@ -11,9 +10,8 @@ use Rattle.cond_syntax.specs.TableTexts as syntax
 use Rattle.cond_text.specs.declared.faults.TextFault.{TextFault}
 use Rattle.cond_text.specs.declared.faults.TextFault.TheVariants.{Syntax, UnknownMethod, UnknownName, Twice, TooDeep, NoMemory as NoMemoryForText}
 use Rattle.cond_text.specs.TextFaults.{IsTold}
-use Rattle.table_choice.specs.declared.refusals.TableRefuse.{TableRefuse}
 use Rattle.table_choice.specs.declared.refusals.TableRefuse.TheVariants.{Line, NotBelow}
-use Rattle.table_choice.specs.RunTables.{IsFaultyText, IsAbove, RefusesWhere, refusal_of, GivesTable}
+use Rattle.table_choice.specs.RunTables.{IsFaultyText, IsAbove, RefusesWhere, refusal_of}
 
 -- the line that is told, where it is that of the text's first fault
 line_at : {A : Type 0} (kind : Kind) (bytes : List ℕ) (told line : ℕ) (fault : Fault) → IsFirstFault (kind ∷ []) bytes told fault → (IsFaultyText kind bytes line → told ≡ line)

@@ -1,4 +1,4 @@
-use Rattle.std.proofs.Common.{◌≡◌, Err, sym, subst}
+use Rattle.std.proofs.Common.{Err, sym, subst}
 use Rattle.gx_base.specs.declared.tables.Table.{Table}
 use Rattle.table_choice.specs.declared.refusals.TableRefuse.{TableRefuse}
 use Rattle.table_choice.specs.declared.refusals.TableRefuse.TheVariants.{Line}
