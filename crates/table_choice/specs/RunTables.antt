@@ -11,7 +11,7 @@ use Rattle.cond_syntax.specs.TableTexts.{Fault, IsTableText, IsFirstFault}
 use Rattle.table_choice.specs.declared.refusals.TableRefuse.{TableRefuse}
 use Rattle.cond_text.specs.declared.faults.TextFault.{TextFault}
 use Rattle.cond_text.specs.declared.faults.TextFault.TheVariants.{Syntax, UnknownMethod, UnknownName, Twice, TooDeep, NoMemory as NoMemoryForText}
-use Rattle.table_choice.specs.declared.refusals.TableRefuse.TheVariants.{Line, NoMemory}
+use Rattle.table_choice.specs.declared.refusals.TableRefuse.TheVariants.{Line, NotBelow, NoMemory}
 
 -- the bytes are the text of this table of the kind, each of whose rows is below the other's
 pub record IsAccepted (kind : Kind) (upper : Rows) (bytes : List ℕ) (table : RowMap) : Type 0 where
@@ -57,3 +57,8 @@ refusal_of NoMemoryForText = NoMemory
 abbrev pub GivesTable : RowMap → Result RowMap TableRefuse → Type 0
 GivesTable table (Ok given) = given ≡ table
 GivesTable table (Err refused) = refused ≡ NoMemory
+
+-- the refusal tells the first pair whose row isn't below
+abbrev pub IsPairRefusal : ℕ → Rows → Rows → TableRefuse → Type 0
+IsPairRefusal kind lower upper (NotBelow first second) = IsFirstNotBelow kind lower upper first second
+IsPairRefusal kind lower upper _ = ⊥

@@ -1,4 +1,4 @@
-ghost use Rattle.std.specs.Prelude.{◌≡◌, ◌≢◌, ℕ, Err, [], ◌∷◌, IsTrue, IfOk, IsSomeAnd, option_map};
+ghost use Rattle.std.specs.Prelude.{◌≡◌, ◌≢◌, ℕ, Err, [], ◌∷◌, IsTrue, IfOk, OnOk, IfErr, IsSomeAnd, option_map};
 ghost use Rattle.gx_base.specs.declared.kinds.Choice.{Choice};
 ghost use Rattle.gx_base.specs.Below.{AreBelow};
 ghost use Rattle.gx_base.specs.Kinds.{kind_number};
@@ -7,8 +7,9 @@ ghost use Rattle.gx_base.specs.TableRows.{RowMap, row_of};
 ghost use Rattle.gx_base.specs.Tables.{IsValid, KeepsToKind};
 ghost use Rattle.cond_lattice.specs.declared.grades.Grade.TheVariants.{General};
 ghost use Rattle.cond_lattice.specs.Grades.{table_grade};
+ghost use Rattle.cond_lattice.specs.Tables.{AreRowsBelow};
 ghost use Rattle.cond_syntax.specs.TableTexts.{IsTableText};
-ghost use Rattle.table_choice.specs.RunTables.{IsAccepted, IsFaultyText, IsAbove, RefusesWhere, MayServe, IsTableOfRun, GivesTable};
+ghost use Rattle.table_choice.specs.RunTables.{IsAccepted, IsFaultyText, IsAbove, RefusesWhere, MayServe, IsTableOfRun, GivesTable, IsPairRefusal};
 ghost use Rattle.table_choice.specs.RunTables as tables;
 ghost use Rattle.table_choice.specs.declared.refusals.TableRefuse.TheVariants as refusals;
 
@@ -48,6 +49,21 @@ fn read_of_kind(alloc: Global, kind: Kind, bytes: &[u8]) -> Result<Table, TableR
     }
 }
 
+/// Looks whether each row is below the other table's.
+fn want_below(kind: Kind, table: &Table, upper: &Table) -> Result<(), TableRefuse>
+    ensures ok { OnOk result (AreRowsBelow (kind_number kind) (row_of table.now) (row_of upper.now)) }
+    ensures sound { OnOk result (KeepsToKind (kind_number kind) (row_of table.now) → AreBelow (row_of table.now) (row_of upper.now)) }
+    ensures refused { IfErr result (IsPairRefusal (kind_number kind) (row_of table.now) (row_of upper.now)) }
+{
+    match below(kind, table, upper) {
+        Ok(()) => Ok(()),
+        Err(pair) => Err(TableRefuse::NotBelow {
+            first: pair.first,
+            second: pair.second,
+        }),
+    }
+}
+
 /// The table that a user wrote for a kind, where each of its rows is below the other's.
 pub fn accepted_table(
     alloc: Global,
@@ -62,12 +78,9 @@ pub fn accepted_table(
     ensures serves { IsValid (kind_number kind) (row_of upper.now) → IfOk result (λ table. MayServe (kind_number kind) (row_of table)) }
 {
     let table = read_of_kind(alloc, kind, bytes)?;
-    match below(kind, &table, upper) {
+    match want_below(kind, &table, upper) {
         Ok(()) => Ok(table),
-        Err(pair) => Err(TableRefuse::NotBelow {
-            first: pair.first,
-            second: pair.second,
-        }),
+        Err(refused) => Err(refused),
     }
 }
 

@@ -10,8 +10,9 @@ use Rattle.cond_syntax.specs.TableTexts as syntax
 use Rattle.cond_text.specs.declared.faults.TextFault.{TextFault}
 use Rattle.cond_text.specs.declared.faults.TextFault.TheVariants.{Syntax, UnknownMethod, UnknownName, Twice, TooDeep, NoMemory as NoMemoryForText}
 use Rattle.cond_text.specs.TextFaults.{IsTold}
-use Rattle.table_choice.specs.declared.refusals.TableRefuse.TheVariants.{Line, NotBelow}
-use Rattle.table_choice.specs.RunTables.{IsFaultyText, IsAbove, RefusesWhere, refusal_of}
+use Rattle.table_choice.specs.declared.refusals.TableRefuse.{TableRefuse}
+use Rattle.table_choice.specs.declared.refusals.TableRefuse.TheVariants.{Line, NotBelow, NoMemory}
+use Rattle.table_choice.specs.RunTables.{IsFaultyText, IsAbove, RefusesWhere, refusal_of, IsPairRefusal}
 
 -- the line that is told, where it is that of the text's first fault
 line_at : {A : Type 0} (kind : Kind) (bytes : List ℕ) (told line : ℕ) (fault : Fault) → IsFirstFault (kind ∷ []) bytes told fault → (IsFaultyText kind bytes line → told ≡ line)
@@ -78,3 +79,15 @@ pair_told {A} kind upper bytes table f s first second text one pair = record {
       let same = same_pair (kind_number kind) (row_of table) upper f s first second pair (subst (λ (t : RowMap). IsFirstNotBelow (kind_number kind) (row_of t) upper first second) (sym (one m.table m.is_table)) m.pair) in
       inl (λ k. Err (NotBelow (same.0 k) (same.1 k)));
 }
+
+-- the same of a refusal that tells a pair
+pub line_after : {A : Type 0} (cause : Type 0) (kind : ℕ) (lower upper : Rows) (line : ℕ) (table : A) (refused : TableRefuse) → IsPairRefusal kind lower upper refused → RefusesWhere cause (Line line) (Ok table) → RefusesWhere {A = A} cause (Line line) (Err refused)
+line_after cause kind lower upper line table (NotBelow first second) told read = line_later cause line first second table read
+line_after cause kind lower upper line table (Line k) told read = absurd told
+line_after cause kind lower upper line table NoMemory told read = absurd told
+
+pub pair_after : {A : Type 0} (kind : Kind) (upper : Rows) (bytes : List ℕ) (table : RowMap) (first second : ℕ) (refused : TableRefuse) → IsPairRefusal (kind_number kind) (row_of table) upper refused → IsTableText (kind ∷ []) bytes kind table
+    → ((other : RowMap) → IsTableText (kind ∷ []) bytes kind other → table ≡ other) → RefusesWhere {A = A} (IsAbove kind upper bytes first second) (NotBelow first second) (Err refused)
+pair_after kind upper bytes table first second (NotBelow f s) told text one = pair_told kind upper bytes table f s first second text one told
+pair_after kind upper bytes table first second (Line k) told text one = absurd told
+pair_after kind upper bytes table first second NoMemory told text one = absurd told

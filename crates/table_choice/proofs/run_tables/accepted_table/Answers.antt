@@ -2,7 +2,7 @@ use Rattle.gx_base.specs.Kinds.{kind_number}
 use Rattle.gx_base.specs.TableRows.{row_of}
 use Rattle.gx_base.proofs.CallerLemmas.{below-IsValid}
 use Rattle.table_choice.specs.RunTables.{IsFaultyText}
-use Rattle.table_choice.proofs.accepting.Refusals.{line_later, pair_told}
+use Rattle.table_choice.proofs.accepting.Refusals.{line_after, pair_after}
 use Rattle.table_choice.proofs.run_tables.accepted_table.Goals as goal
 
 pub returns-in-Ok-clause-serves : goal.returns-in-Ok-clause-serves
@@ -12,9 +12,10 @@ returns-in-Ok-clause-serves c valid = record {
 }
 
 pub returns-in-Err-clause-line : goal.returns-in-Err-clause-line
-returns-in-Err-clause-line c line = line_later (IsFaultyText c.args.kind c.args.bytes.now line) line c.in-Err.pair.first c.in-Err.pair.second c.in_ok-table.table (c.in_ok-table.ensures.line line)
+returns-in-Err-clause-line c line =
+    line_after (IsFaultyText c.args.kind c.args.bytes.now line) (kind_number c.args.kind) (row_of c.in_ok-table.table) (row_of c.args.upper.now) line c.in_ok-table.table c.in-Err.refused c.in-Err.ensures.refused
+    (c.in_ok-table.ensures.line line)
 
 pub returns-in-Err-clause-pair : goal.returns-in-Err-clause-pair
 returns-in-Err-clause-pair c first second =
-    pair_told c.args.kind (row_of c.args.upper.now) c.args.bytes.now c.in_ok-table.table c.in-Err.pair.first c.in-Err.pair.second first second c.in_ok-table.ensures.table c.in_ok-table.ensures.only_table
-    c.in-Err.ensures.refused
+    pair_after c.args.kind (row_of c.args.upper.now) c.args.bytes.now c.in_ok-table.table first second c.in-Err.refused c.in-Err.ensures.refused c.in_ok-table.ensures.table c.in_ok-table.ensures.only_table
