@@ -1,4 +1,0 @@
-pub mod CallerLemmas
-mod kept
-mod puts
-mod visits

@@ -1,3 +1,0 @@
-pub mod EnteredRooms
-pub mod FirstRooms
-pub mod LeftRooms

@@ -1,6 +1,0 @@
-pub mod HandedOut
-pub mod Histories
-pub mod RoomsViews
-pub mod ValueViews
-pub mod Values
-pub mod Visits
