@@ -1,3 +1,4 @@
 pub mod FlowRuns
 pub mod FlowAnswers
+pub mod ModeTexts
 pub mod ClassifyAnswers

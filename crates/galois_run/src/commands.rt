@@ -3,6 +3,7 @@
 pub mod about;
 pub mod classify;
 pub mod flow;
+mod mode_lines;
 
 ghost use Rattle.galois_run.specs.CommandMeanings.{command_meaning};
 ghost use Rattle.galois_run.specs.Inputs.{inputs_in};
