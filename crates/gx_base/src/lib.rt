@@ -30,5 +30,5 @@ pub use items::Item;
 pub use kinds::{Choice, Kind, method_at, method_of, word_of};
 pub use memory::NoMemory;
 pub use sequential::SeqType;
-pub use spots::beyond;
+pub use spots::{beyond, distance, square};
 pub use tables::Table;

@@ -1,0 +1,4 @@
+pub mod Trees
+pub mod TreeStates
+pub mod Searches
+pub mod PointMethods
