@@ -1,5 +1,5 @@
 -- What a tree of points stands for.
-use Rattle.std.specs.Prelude.{◌≡◌, ℕ, ℤ, Bool, true, false, ◌&&◌, ◌||◌, Option, Some, None, List, [], ◌∷◌, if◌then◌else◌}
+use Rattle.std.specs.Prelude.{◌≡◌, ℕ, ◌+◌, ℤ, Bool, true, false, cond, ◌&&◌, ◌||◌, Option, Some, None, List, [], ◌∷◌, if◌then◌else◌}
 use Rattle.std.specs.FinMap as map
 use Rattle.std.specs.Map.{lookup}
 use Rattle.std.specs.Ordering.{int_eq}
@@ -7,10 +7,10 @@ use Rattle.gx_base.specs.declared.calls.Spot.{Spot}
 use Rattle.gx_base.specs.declared.kinds.Kind.TheVariants.{Points}
 use Rattle.gx_base.specs.Kinds.{kind_number}
 use Rattle.gx_base.specs.States.{State, row_cmp, rows_put, row_at}
-use Rattle.slab.specs.Slab.{Slab, get, slab_len}
+use Rattle.slab.specs.Slab.{Slab, get, slab_len, Updates}
 use Rattle.kd_points.specs.declared.nodes.Node.{Node}
 use Rattle.kd_points.specs.declared.tree.Tree.{Tree}
-use Rattle.kd_points.specs.Trees.{Nodes, IsTree}
+use Rattle.kd_points.specs.Trees.{Nodes, is_point_of, IsTree}
 
 -- the node of a key
 abbrev pub node_at : Tree → Nodes
@@ -27,7 +27,7 @@ place r = r.x ∷ r.y ∷ r.z ∷ []
 -- the row that a node is for an id: its point, where it is live and has this id
 abbrev pub row_of_node : ℤ → Option Node → Option (List ℤ)
 row_of_node id None = None
-row_of_node id (Some n) = if n.live && int_eq n.spot.id id then Some (place n.spot) else None
+row_of_node id (Some n) = if is_point_of id n then Some (place n.spot) else None
 
 -- the rows of these ids, each with the key of its node
 abbrev pub rows_of : Nodes → List (ℤ × ℕ) → map.FinMap row_cmp (List ℤ)
@@ -44,7 +44,7 @@ count_of s = map.len s.rows
 
 -- what the code relies on: the nodes are a tree, and the points are counted
 pub record IsSound (tree : Tree) : Type 0 where
-  pub tree : IsTree (node_at tree) tree.root (slab_len tree.nodes) (key_of tree)
+  pub placed : IsTree (node_at tree) tree.root (slab_len tree.nodes) (key_of tree)
   pub counted : tree.live ≡ count_of (tree_state tree)
 
 abbrev pub same_spot : Spot → Spot → Bool
@@ -66,3 +66,19 @@ NoPoint tree id = row_at (tree_state tree) (0, id) ≡ None
 -- each node has stayed, live or not
 abbrev pub KeepsNodes : Tree → Tree → Type 0
 KeepsNodes old new = (r : Spot) → has_node old r ≡ true → has_node new r ≡ true
+
+-- nothing has changed but the room that there is
+pub record IsAlike (old new : Tree) : Type 0 where
+  pub slots : new.nodes.slots ≡ old.nodes.slots
+  pub entries : new.numbers.entries ≡ old.numbers.entries
+  pub root : new.root ≡ old.root
+  pub live : new.live ≡ old.live
+
+-- a new node has this key, and its id stands for it
+pub record IsPlanted (old new : Tree) (key : ℕ) (node : Node) : Type 0 where
+  pub vacant : node_at old key ≡ None
+  pub nodes : Updates old.nodes new.nodes key (Some node)
+  pub size : slab_len new.nodes ≡ slab_len old.nodes + 1
+  pub keys : (id : ℤ) → key_of new id ≡ cond (int_eq node.spot.id id) (Some key) (key_of old id)
+  pub root : new.root ≡ old.root
+  pub live : new.live ≡ old.live

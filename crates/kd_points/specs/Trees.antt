@@ -1,7 +1,7 @@
 -- Trees of points: which node stands where, and where the way of a spot leads.
-use Rattle.std.specs.Prelude.{◌≡◌, ℕ, zero, suc, ◌<◌, ℤ, Bool, true, false, Option, Some, None, is_some, if◌then◌else◌, FitsSigned, ◌⊎◌}
+use Rattle.std.specs.Prelude.{◌≡◌, ℕ, zero, suc, ◌<◌, ℤ, Bool, true, false, Option, Some, None, is_some, ◌&&◌, if◌then◌else◌, FitsSigned, ◌⊎◌}
 use Rattle.std.specs.Int.{w64}
-use Rattle.std.specs.Ordering.{int_cmp, ordering_then, is_lt}
+use Rattle.std.specs.Ordering.{int_cmp, int_eq, ordering_then, is_lt}
 use Rattle.std.specs.declared.cmp.Ordering.{Ordering}
 use Rattle.gx_base.specs.declared.calls.Spot.{Spot}
 use Rattle.kd_points.specs.declared.nodes.Axis.{Axis}
@@ -60,6 +60,10 @@ abbrev pub IsNodeOf : Option Node → Spot → Type 0
 IsNodeOf None r = ⊥
 IsNodeOf (Some n) r = (n.live ≡ true) × (n.spot ≡ r)
 
+-- the node holds the point of this id
+abbrev pub is_point_of : ℤ → Node → Bool
+is_point_of id n = n.live && int_eq n.spot.id id
+
 -- some node holds the point
 abbrev pub IsLive : Nodes → Spot → Type 0
 IsLive look r = (i : ℕ) × IsNodeOf (look i) r
@@ -71,6 +75,7 @@ FitsSpot r = FitsSigned w64 r.id × FitsSigned w64 r.x × FitsSigned w64 r.y × 
 -- a tree of so many nodes: each stands, live or not, where the way of its spot leads from the root after as many steps as
 -- its depth says. The numbers lead to the key of the live node of each id
 pub record IsTree (look : Nodes) (root : Option ℕ) (size : ℕ) (numbers : ℤ → Option ℕ) : Type 0 where
+  pub rooted : (r : ℕ) → root ≡ Some r → depth_of (look r) ≡ Some 0
   pub placed : (i : ℕ) (n : Node) → look i ≡ Some n → way look n.spot n.depth root ≡ Some i
   pub nested : (i c : ℕ) (n : Node) (left : Bool) → look i ≡ Some n → child n left ≡ Some c → depth_of (look c) ≡ Some (suc n.depth)
   pub shallow : (i : ℕ) (n : Node) → look i ≡ Some n → n.depth < size
@@ -78,9 +83,23 @@ pub record IsTree (look : Nodes) (root : Option ℕ) (size : ℕ) (numbers : ℤ
   pub owned : (i : ℕ) (n : Node) → look i ≡ Some n → n.live ≡ true → numbers n.spot.id ≡ Some i
   pub fits : (i : ℕ) (n : Node) → look i ≡ Some n → FitsSpot n.spot
 
+-- the key stands for the id, and its node holds the point of this id
+pub record IsOwner (look : Nodes) (numbers : ℤ → Option ℕ) (id : ℤ) (key : ℕ) : Type 0 where
+  pub node : Node
+  pub numbered : numbers id ≡ Some key
+  pub there : look key ≡ Some node
+  pub live : node.live ≡ true
+  pub named : node.spot.id ≡ id
+
 -- where the spot belongs: at its own node, or on the free side of the node at which its way ends
 abbrev pub IsSeat : Nodes → Option ℕ → Spot → Seat → Type 0
 IsSeat look root spot (Found j) = (n : Node) × (look j ≡ Some n) × (n.spot ≡ spot)
 IsSeat look root spot (Free j left) =
     (n : Node) × (look j ≡ Some n) × (child n left ≡ None) × (is_left n spot ≡ left) × (way look spot n.depth root ≡ Some j)
 IsSeat look root spot Empty = root ≡ None
+
+-- the seat is the spot's own node
+abbrev pub is_found : Seat → Bool
+is_found (Found j) = true
+is_found (Free j left) = false
+is_found Empty = false

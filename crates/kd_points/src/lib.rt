@@ -8,6 +8,7 @@
 //! says that these are valid.
 #![tactic(auto)]
 
+mod growth;
 mod nodes;
 pub mod point_methods;
 mod point_set;

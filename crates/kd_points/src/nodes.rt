@@ -71,6 +71,13 @@ pub fn child(node: Node, left: bool) -> Option<usize>
     if left { node.left } else { node.right }
 }
 
+/// Whether a node holds the point of a number.
+pub fn is_point_of(node: Node, id: i64) -> bool
+    ensures { result ≡ trees.is_point_of id node }
+{
+    node.live && node.spot.id == id
+}
+
 pub fn is_same(p: Spot, q: Spot) -> bool
     ensures same { result ≡ true → p ≡ q }
     ensures other { p ≡ q → result ≡ true }

@@ -1,4 +1,3 @@
-ghost use Rattle.std.specs.Prelude.{◌≡◌, ◌⊎◌, ◌×◌, IfOk, OnOk, OnErr};
 
 use crate::nodes::{Axis, order};
 use crate::tree::Tree;

@@ -1,12 +1,12 @@
-ghost use Rattle.std.specs.Prelude.{◌≡◌, ◌≢◌, ◌<◌, ◌≤◌, true, is_some, Some, None, OnOk, OnErr, IfOk};
+ghost use Rattle.std.specs.Prelude.{◌≡◌, ◌≢◌, ◌<◌, ◌≤◌, true, is_some, Some, None, OnOk, OnErr, IfOk, IfSome, IfNone};
 ghost use Rattle.gx_base.specs.declared.calls.Spot.{Spot as a_spot};
 ghost use Rattle.gx_base.specs.PointKind.{spot_at};
 ghost use Rattle.gx_base.specs.States.{with_row, row_at};
 ghost use Rattle.slab.specs.Slab.{get, slab_len, Updates};
-ghost use Rattle.kd_points.specs.Trees.{IsSeat, FitsSpot, leaf_of, linked};
+ghost use Rattle.kd_points.specs.Trees.{IsSeat, is_found, IsOwner};
 ghost use Rattle.kd_points.specs.TreeStates.{node_at, key_of, place, tree_state, count_of, IsSound, has_node, NoPoint, KeepsNodes};
 
-use crate::nodes::{Axis, Node, Seat, child, crossed, is_left, is_same, leaf, link};
+use crate::nodes::{Node, Seat, child, is_left, is_point_of, is_same};
 use gx_base::{NoMemory, Spot};
 use indexmap::IndexMap;
 use slab::Slab;
@@ -16,12 +16,12 @@ use std::alloc::Global;
 #[derive(Drop)]
 pub struct Tree {
     pub(crate) nodes: Slab<Node>,
-    root: Option<usize>,
-    numbers: IndexMap<i64, usize>,
+    pub(crate) root: Option<usize>,
+    pub(crate) numbers: IndexMap<i64, usize>,
     // how many points there are
-    live: usize,
+    pub(crate) live: usize,
     // how many nodes were put in one by one
-    grown: usize,
+    pub(crate) grown: usize,
 }
 
 impl Tree {
@@ -78,7 +78,7 @@ impl Tree {
     }
 
     /// The node of a key that has one.
-    fn node_in(&self, key: usize) -> Node
+    pub fn node_in(&self, key: usize) -> Node
         requires { is_some (node_at self.now key) ≡ true }
         ensures { node_at self.now key ≡ Some result }
     {
@@ -95,10 +95,19 @@ impl Tree {
     }
 
     /// The key of the live node of a number.
-    fn live_key(&self, id: i64) -> Option<usize> {
-        let key = self.found(id)?;
-        let node = self.node(key)?;
-        if node.live && node.spot.id == id {
+    pub fn owner(&self, id: i64) -> Option<usize>
+        ensures some { IfSome result (λ key. IsOwner (node_at self.now) (key_of self.now) id key) }
+        ensures none { IfNone result (NoPoint self.now id) }
+    {
+        let key = match self.found(id) {
+            None => return None,
+            Some(key) => key,
+        };
+        let node = match self.node(key) {
+            None => return None,
+            Some(node) => node,
+        };
+        if is_point_of(node, id) {
             Some(key)
         } else {
             None
@@ -109,25 +118,23 @@ impl Tree {
     pub fn at(&self, id: i64) -> Option<Spot>
         ensures { result ≡ spot_at (tree_state self.now) id }
     {
-        let key = self.found(id)?;
-        let node = self.node(key)?;
-        if node.live && node.spot.id == id {
-            Some(node.spot)
-        } else {
-            None
+        match self.owner(id) {
+            None => None,
+            Some(key) => Some(self.node_in(key).spot),
         }
     }
 
     /// Where a spot belongs: its way from the root.
-    fn seek(&self, spot: Spot) -> Seat
+    pub fn seek(&self, spot: Spot) -> Seat
         requires { IsSound self.now }
         ensures seat { IsSeat (node_at self.now) self.now.root spot result }
+        ensures found { is_found result ≡ has_node self.now spot }
     {
         let mut at = match self.root {
             None => return Seat::Empty,
             Some(root) => root,
         };
-        loop {
+        'walk: loop {
             let node = self.node_in(at);
             if is_same(node.spot, spot) {
                 return Seat::Found(at);
@@ -148,109 +155,6 @@ impl Tree {
         match self.seek(spot) {
             Seat::Found(_) => true,
             _ => false,
-        }
-    }
-
-    /// Writes a node in the place of another.
-    fn rewrite(&mut self, key: usize, node: Node) {
-        self.nodes[key] = node;
-    }
-
-    fn mark(&mut self, key: usize, live: bool) {
-        let node = self.node_in(key);
-        self.rewrite(
-            key,
-            Node {
-                spot: node.spot,
-                live,
-                axis: node.axis,
-                depth: node.depth,
-                left: node.left,
-                right: node.right,
-            },
-        );
-    }
-
-    /// Takes the point of a number out, where there is one: its node stays, and is dead.
-    pub fn take_out(&mut self, id: i64)
-        requires { IsSound self.old }
-        ensures sound { IsSound self.new }
-        ensures state { tree_state self.new ≡ with_row (tree_state self.old) (0, id) None }
-        ensures kept { KeepsNodes self.old self.new }
-    {
-        if let Some(key) = self.live_key(id) {
-            self.mark(key, false);
-            self.live -= 1;
-        }
-    }
-
-    /// Makes a dead node live.
-    fn wake(&mut self, key: usize, id: i64) {
-        self.mark(key, true);
-        self.numbers.insert(id, key).unwrap();
-        self.live += 1;
-    }
-
-    /// Puts a point where the tree has a node for it, in place of any of the same number.
-    pub fn put_back(&mut self, spot: Spot)
-        requires sound { IsSound self.old }
-        requires there { has_node self.old spot ≡ true }
-        ensures sound { IsSound self.new }
-        ensures state { tree_state self.new ≡ with_row (tree_state self.old) (0, spot.id) (Some (place spot)) }
-        ensures kept { KeepsNodes self.old self.new }
-    {
-        self.take_out(spot.id);
-        if let Seat::Found(key) = self.seek(spot) {
-            self.wake(key, spot.id);
-        }
-    }
-
-    /// Puts a new node into the tree, and answers its key.
-    fn plant(&mut self, node: Node) -> Result<usize, NoMemory> {
-        self.numbers.reserve(1)?;
-        let key = self.nodes.insert(node)?;
-        self.numbers.insert(node.spot.id, key).unwrap();
-        self.live += 1;
-        self.grown = self.grown.saturating_add(1);
-        Ok(key)
-    }
-
-    /// Puts a new node on the free side of another.
-    fn hang(
-        &mut self,
-        spot: Spot,
-        axis: Option<Axis>,
-        at: usize,
-        left: bool,
-    ) -> Result<(), NoMemory> {
-        let parent = self.node_in(at);
-        let axis = axis.unwrap_or(crossed(parent.axis));
-        let key = self.plant(leaf(axis, spot, parent.depth + 1))?;
-        self.rewrite(at, link(parent, left, key));
-        Ok(())
-    }
-
-    /// Puts a point in, whose number has none.
-    pub fn insert(&mut self, spot: Spot, axis: Option<Axis>) -> Result<(), NoMemory>
-        requires sound { IsSound self.old }
-        requires free { NoPoint self.old spot.id }
-        ensures sound { IsSound self.new }
-        ensures ok { OnOk result (tree_state self.new ≡ with_row (tree_state self.old) (0, spot.id) (Some (place spot))) }
-        ensures room { OnOk result (has_node self.new spot ≡ true) }
-        ensures err { OnErr result (tree_state self.new ≡ tree_state self.old) }
-        ensures kept { KeepsNodes self.old self.new }
-    {
-        match self.seek(spot) {
-            Seat::Found(key) => {
-                self.wake(key, spot.id);
-                Ok(())
-            }
-            Seat::Free(at, left) => self.hang(spot, axis, at, left),
-            Seat::Empty => {
-                let key = self.plant(leaf(axis.unwrap_or(Axis::X), spot, 0))?;
-                self.root = Some(key);
-                Ok(())
-            }
         }
     }
 }

@@ -1,0 +1,16 @@
+use Rattle.std.proofs.Common.{◌≡◌, ◌+◌, Some, FitsSigned, w64, rules, sym, ap, subst}
+use Rattle.kd_points.specs.declared.nodes.Node.{Node}
+use Rattle.kd_points.specs.declared.tree.Tree.{Tree}
+use Rattle.kd_points.specs.Trees.{leaf_of, FitsSpot}
+use Rattle.kd_points.specs.TreeStates.{place, IsPlanted}
+use Rattle.kd_points.proofs.trees.Changes.{Changed}
+use Rattle.kd_points.proofs.trees.Hung.{alike_sound, Grown, rooted_from}
+use Rattle.kd_points.proofs.tree.Tree.found_root.Goals as goal
+
+pub returns-in_err-key-clause-sound : goal.returns-in_err-key-clause-sound
+returns-in_err-key-clause-sound c = alike_sound c.args.self.now c.plant.new.self c.in_err-key.ensures.err c.requires.sound
+
+pub count_one-requires : goal.count_one-requires
+count_one-requires c =
+    let fits : FitsSpot c.args.spot = search rules in
+    (rooted_from c.args.self.now c.plant.new.self c.args.spot c.args.axis c.in_ok-key.key c.requires.sound c.requires.free c.requires.empty (subst (IsPlanted c.args.self.now c.plant.new.self c.in_ok-key.key) c.leaf.ensures c.in_ok-key.ensures.ok) fits).counted
