@@ -1,2 +1,4 @@
 pub mod states
 pub mod trees
+pub mod searches
+pub mod tables

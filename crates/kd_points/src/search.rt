@@ -1,4 +1,4 @@
-ghost use Rattle.std.specs.Prelude.{◌≡◌, ◌≤◌, ◌<◌, ◌++◌, not, true, Some, IfOk, OnOk};
+ghost use Rattle.std.specs.Prelude.{◌≡◌, ◌≤◌, ◌<◌, ◌+◌, ◌-◌, ◌^◌, ◌++◌, min, if◌then◌else◌, true, Some, IsSome, IfSome, IfOk, OnOk};
 ghost use Rattle.gx_base.specs.PointKind.{nearer, nearest as nearest_in};
 ghost use Rattle.gx_base.specs.Spots as near;
 ghost use Rattle.kd_points.specs.Searches.{is_other as may_be_nearest, other_of, to_plane, pending_at, sides_of};
@@ -48,9 +48,21 @@ fn better(node: Node, q: Spot, best: Option<Spot>) -> Option<Spot>
     }
 }
 
+/// The count of distances, with the one to a node's point where it is taken.
+fn with_one_for(taken: u64, node: Node, q: Spot) -> u64
+    ensures { result ≡ (if may_be_nearest q node then min (taken + 1) (2 ^ 64 - 1) else taken) }
+{
+    if is_other(node, q) {
+        taken.saturating_add(1)
+    } else {
+        taken
+    }
+}
+
 /// The squared distance to the plane in which the node splits its part.
 fn reach_of_plane(node: Node, q: Spot) -> u128
-    ensures { result ≡ to_plane q node }
+    ensures value { result ≡ to_plane q node }
+    ensures fits { result ≤ near.far }
 {
     match node.axis {
         Axis::X => square(q.x, node.spot.x),
@@ -60,8 +72,7 @@ fn reach_of_plane(node: Node, q: Spot) -> u128
 
 /// Whether all that is at least so far away is farther than the best so far.
 fn is_past(reach: u128, q: Spot, best: Option<Spot>) -> bool
-    ensures past { result ≡ true → (n : near.Spot) → best ≡ Some n → near.distance q n < reach }
-    ensures some { result ≡ true → best ≢ None }
+    ensures { result ≡ true → IfSome best (λ n. near.distance q n < reach) × IsSome best }
 {
     match best {
         None => false,
@@ -85,7 +96,8 @@ fn push_sides(
     q: Spot,
     reach: u128,
 ) -> Result<(), NoMemory>
-    ensures { OnOk result (waiting.new.items ≡ waiting.old.items ++ sides_of q node reach) }
+    ensures sides { OnOk result (waiting.new.items ≡ waiting.old.items ++ sides_of q node reach) }
+    ensures fits { to_plane q node ≤ near.far }
 {
     let left = is_left(node, q);
     push_side(waiting, child(node, !left), reach_of_plane(node, q))?;
@@ -101,20 +113,26 @@ pub fn nearest(tree: &Tree, alloc: Global, q: Spot) -> Result<Found, NoMemory>
     let mut taken: u64 = 0;
     let mut waiting = Vec::with_capacity(alloc, 32)?;
     push_side(&mut waiting, tree.root(), 0)?;
-    while let Some(next) = waiting.pop() {
+    'search: loop {
+        let next = match waiting.pop() {
+            None => {
+                return Ok(Found {
+                    nearest: best,
+                    taken,
+                });
+            }
+            Some(next) => next,
+        };
         if is_past(next.reach, q, best) {
             continue;
         }
-        if let Some(node) = tree.node(next.from) {
-            if is_other(node, q) {
-                taken = taken.saturating_add(1);
+        match tree.node(next.from) {
+            None => {}
+            Some(node) => {
+                taken = with_one_for(taken, node, q);
+                best = better(node, q, best);
+                push_sides(&mut waiting, node, q, next.reach)?;
             }
-            best = better(node, q, best);
-            push_sides(&mut waiting, node, q, next.reach)?;
         }
     }
-    Ok(Found {
-        nearest: best,
-        taken,
-    })
 }

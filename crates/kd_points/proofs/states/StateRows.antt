@@ -108,16 +108,16 @@ no_key look es id found f e = get-rows_of look es id ∙ ap (row_found look id) 
 
 pub no_node : (look : Nodes) (es : List (ℤ × ℕ)) (id : ℤ) (found : Option ℕ) (key : ℕ) (node : Option Node) → found ≡ lookup (int_eq id) es → found ≡ Some key → node ≡ look key → node ≡ None
     → row_at (with_rows (rows_of look es)) (0, id) ≡ None
-no_node look es id found key node f e g h = get-rows_of look es id ∙ ap (row_found look id) (sym f ∙ e) ∙ ap (row_of_node id) (sym g ∙ h)
+no_node look es id found key held f e g h = get-rows_of look es id ∙ ap (row_found look id) (sym f ∙ e) ∙ ap (row_of_node id) (sym g ∙ h)
 
 pub no_point : (look : Nodes) (es : List (ℤ × ℕ)) (id : ℤ) (found : Option ℕ) (key : ℕ) (node : Option Node) (n : Node) → found ≡ lookup (int_eq id) es → found ≡ Some key → node ≡ look key → node ≡ Some n
     → is_point_of id n ≡ false → row_at (with_rows (rows_of look es)) (0, id) ≡ None
-no_point look es id found key node n f e g h p =
+no_point look es id found key held n f e g h p =
     get-rows_of look es id ∙ ap (row_found look id) (sym f ∙ e) ∙ ap (row_of_node id) (sym g ∙ h) ∙ ap (λ b. if b then Some (place n.spot) else None) p
 
 pub is_owner : (look : Nodes) (es : List (ℤ × ℕ)) (id : ℤ) (found : Option ℕ) (key : ℕ) (node : Option Node) (n : Node) → found ≡ lookup (int_eq id) es → found ≡ Some key → node ≡ look key → node ≡ Some n
     → is_point_of id n ≡ true → IsOwner look (λ q. lookup (int_eq q) es) id key
-is_owner look es id found key node n f e g h p =
+is_owner look es id found key held n f e g h p =
     let parts : (n.live ≡ true) × (int_eq n.spot.id id ≡ true) = and_parts n.live (int_eq n.spot.id id) p in
     record { node = n; numbered = sym f ∙ e; there = sym g ∙ h; live = parts.0; named = same_int n.spot.id id parts.1 }
 

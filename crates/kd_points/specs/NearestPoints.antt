@@ -11,7 +11,7 @@ use Rattle.std.specs.Int.{int_min, int_max}
 use Rattle.gx_base.specs.declared.calls.Spot.{Spot}
 use Rattle.gx_base.specs.States.{State, row_cmp, row_at, with_row}
 use Rattle.gx_base.proofs.CallerLemmas.{both_equal, same_row, same_row-is, same_row-sort, row_at-with}
-use Rattle.kind_tables.proofs.swapping.Effects.{same_int, either, both, not_true, false_of}
+use Rattle.kind_tables.proofs.CallerLemmas.{same_int, either, both, not_true, false_of}
 use Rattle.gx_base.specs.Spots.{Key, pk, key_cmp, beyond, distance}
 use Rattle.gx_base.specs.PointKind.{spot_of, spot_at, nearer, other_at, nearest_of, nearest}
 
