@@ -181,7 +181,7 @@ spot_if : (b : Bool) (y : ℤ) (row old : Option (List ℤ)) → spot_of y (cond
 spot_if true y row old = refl
 spot_if false y row old = refl
 
-spot_at-with : (s : State) (x : ℤ) (row : Option (List ℤ)) (y : ℤ) → spot_at (with_row s (0, x) row) y ≡ cond (int_eq y x) (spot_of y row) (spot_at s y)
+pub spot_at-with : (s : State) (x : ℤ) (row : Option (List ℤ)) (y : ℤ) → spot_at (with_row s (0, x) row) y ≡ cond (int_eq y x) (spot_of y row) (spot_at s y)
 spot_at-with s x row y = ap (spot_of y) (row_at-with s (0, x) row (0, y)) ∙ spot_if (same_row (0, y) (0, x)) y row (row_at s (0, y)) ∙ ap (λ b. cond b (spot_of y row) (spot_at s y)) (same_row-sort 0 y x)
 
 spot_at-apart : (s : State) (x : ℤ) (row : Option (List ℤ)) (y : ℤ) → int_eq y x ≡ false → spot_at (with_row s (0, x) row) y ≡ spot_at s y

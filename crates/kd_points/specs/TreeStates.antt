@@ -1,5 +1,5 @@
 -- What a tree of points stands for.
-use Rattle.std.specs.Prelude.{◌≡◌, ℕ, ◌+◌, ℤ, Bool, true, false, cond, ◌&&◌, ◌||◌, Option, Some, None, List, [], ◌∷◌, if◌then◌else◌}
+use Rattle.std.specs.Prelude.{◌≡◌, ℕ, ◌+◌, ◌-◌, ℤ, Bool, true, false, cond, ◌&&◌, ◌||◌, Option, Some, None, List, [], ◌∷◌, if◌then◌else◌}
 use Rattle.std.specs.FinMap as map
 use Rattle.std.specs.Map.{lookup}
 use Rattle.std.specs.Ordering.{int_eq}
@@ -42,6 +42,10 @@ tree_state tree = record { kind = kind_number Points; rows = rows_of (node_at tr
 abbrev pub count_of : State → ℕ
 count_of s = map.len s.rows
 
+-- how many nodes hold no point
+abbrev pub dead_nodes : Tree → ℕ
+dead_nodes tree = slab_len tree.nodes - tree.live
+
 -- what the code relies on: the nodes are a tree, and the points are counted
 pub record IsSound (tree : Tree) : Type 0 where
   pub placed : IsTree (node_at tree) tree.root (slab_len tree.nodes) (key_of tree)
@@ -82,3 +86,11 @@ pub record IsPlanted (old new : Tree) (key : ℕ) (node : Node) : Type 0 where
   pub keys : (id : ℤ) → key_of new id ≡ cond (int_eq node.spot.id id) (Some key) (key_of old id)
   pub root : new.root ≡ old.root
   pub live : new.live ≡ old.live
+
+-- the tree has no nodes
+pub record IsBlank (tree : Tree) : Type 0 where
+  pub slots : tree.nodes.slots ≡ []
+  pub entries : tree.numbers.entries ≡ []
+  pub root : tree.root ≡ None
+  pub live : tree.live ≡ 0
+  pub grown : tree.grown ≡ 0

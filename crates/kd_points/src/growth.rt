@@ -1,10 +1,10 @@
-ghost use Rattle.std.specs.Prelude.{◌≡◌, ◌≢◌, ◌+◌, ◌<◌, ℕ, true, false, Bool, ℤ, cond, is_some, Some, None, OnOk, OnErr, IfOk};
+ghost use Rattle.std.specs.Prelude.{◌≡◌, ◌≢◌, ◌+◌, ◌<◌, ◌≤◌, ℕ, true, false, Bool, ℤ, cond, is_some, Some, None, OnOk, OnErr, IfOk};
 ghost use Rattle.std.specs.Ordering.{int_eq};
 ghost use Rattle.gx_base.specs.States.{with_row};
 ghost use Rattle.slab.specs.Slab.{slab_len, Updates};
 ghost use Rattle.kd_points.specs.Trees as trees;
 ghost use Rattle.kd_points.specs.declared.nodes.Node.{Node};
-ghost use Rattle.kd_points.specs.TreeStates.{node_at, key_of, place, tree_state, count_of, IsSound, IsAlike, IsPlanted, has_node, NoPoint, KeepsNodes};
+ghost use Rattle.kd_points.specs.TreeStates.{node_at, key_of, place, tree_state, count_of, dead_nodes, IsSound, IsAlike, IsPlanted, has_node, NoPoint, KeepsNodes};
 
 use crate::nodes::{Axis, Node, Seat, crossed, leaf, link};
 use crate::tree::Tree;
@@ -85,6 +85,7 @@ impl Tree {
         ensures sound { IsSound self.new }
         ensures state { tree_state self.new ≡ with_row (tree_state self.old) (0, spot.id) (Some (place spot)) }
         ensures kept { KeepsNodes self.old self.new }
+        ensures dead { dead_nodes self.new ≤ dead_nodes self.old }
     {
         self.mark(key, true);
         self.number(spot.id, key);
@@ -132,6 +133,7 @@ impl Tree {
         ensures sound { IsSound self.new }
         ensures ok { OnOk result (tree_state self.new ≡ with_row (tree_state self.old) (0, spot.id) (Some (place spot))) }
         ensures room { OnOk result (has_node self.new spot ≡ true) }
+        ensures dead { OnOk result (dead_nodes self.new ≤ dead_nodes self.old) }
         ensures err { OnErr result (tree_state self.new ≡ tree_state self.old) }
         ensures kept { KeepsNodes self.old self.new }
     {
@@ -153,6 +155,7 @@ impl Tree {
         ensures sound { IsSound self.new }
         ensures ok { OnOk result (tree_state self.new ≡ with_row (tree_state self.old) (0, spot.id) (Some (place spot))) }
         ensures room { OnOk result (has_node self.new spot ≡ true) }
+        ensures dead { OnOk result (dead_nodes self.new ≤ dead_nodes self.old) }
         ensures err { OnErr result (tree_state self.new ≡ tree_state self.old) }
         ensures kept { KeepsNodes self.old self.new }
     {
@@ -169,6 +172,7 @@ impl Tree {
         ensures sound { IsSound self.new }
         ensures ok { OnOk result (tree_state self.new ≡ with_row (tree_state self.old) (0, spot.id) (Some (place spot))) }
         ensures room { OnOk result (has_node self.new spot ≡ true) }
+        ensures dead { OnOk result (dead_nodes self.new ≤ dead_nodes self.old) }
         ensures err { OnErr result (tree_state self.new ≡ tree_state self.old) }
         ensures kept { KeepsNodes self.old self.new }
     {

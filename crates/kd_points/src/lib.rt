@@ -10,12 +10,12 @@
 
 mod growth;
 mod nodes;
+mod point_calls;
 pub mod point_methods;
 mod point_set;
+mod point_shipping;
 mod rebuild;
 mod search;
 mod tree;
-#[cfg(test)]
-mod tests;
 
 pub use point_set::KdPoints;

@@ -30,7 +30,7 @@ pub enum Seat {
     Empty,
 }
 
-fn coordinate(axis: Axis, spot: Spot) -> i64
+pub fn coordinate(axis: Axis, spot: Spot) -> i64
     ensures { result ≡ trees.coordinate axis spot }
 {
     match axis {

@@ -1,110 +1,140 @@
+ghost use Rattle.std.specs.Prelude.{◌≡◌, ◌≢◌, ◌≤◌, pos, true, IsTrue, IsOk, IfOk, OnOk, OnErr, if◌then◌else◌};
+ghost use Rattle.std.specs.FinMap as map;
+ghost use Rattle.std.proofs.Props.{props};
+ghost use Rattle.kd_points.specs.TreeStates.{IsSound};
+
+use crate::point_calls::{at_reply, is_addable, nearest_reply, spot_of_call, yes_or_no};
 use crate::point_methods::{PointDeed, deed_of};
-use crate::rebuild::LEAST_REBUILT;
+use crate::point_shipping::point_table;
 use crate::search::nearest;
 use crate::tree::Tree;
-use gx_base::{Call, NoMemory, Reply, Spot};
+use gx_base::{Call, Choice, Kind, NoMemory, Reply, SeqType, Spot, Table};
 use std::alloc::Global;
 
 /// Points by number. A point is found by its number, or as the nearest one to a spot.
 #[derive(Drop)]
 pub struct KdPoints {
     tree: Tree,
+    // how many distances `nearest` has taken
     looked: u64,
     alloc: Global,
-}
-
-fn spot_of_call(call: Call) -> Spot {
-    Spot { id: call.a, x: call.b, y: call.c, z: call.d }
-}
-
-fn yes_or_no(answer: bool) -> Reply {
-    Reply::new(if answer { 1 } else { 0 }, 0, 0, 0)
-}
-
-fn at_reply(point: Option<Spot>) -> Reply {
-    match point {
-        None => yes_or_no(false),
-        Some(spot) => Reply::new(1, spot.x, spot.y, spot.z),
-    }
-}
-
-fn nearest_reply(point: Option<Spot>) -> Reply {
-    match point {
-        None => Reply::new(-1, 0, 0, 0),
-        Some(spot) => Reply::new(spot.id, spot.x, spot.y, spot.z),
-    }
+    ghost sound: { IsSound tree } by { Prim.hlevel props },
 }
 
 impl KdPoints {
-    pub fn new(alloc: Global) -> KdPoints {
-        KdPoints { tree: Tree::new(alloc), looked: 0, alloc }
+    ghost use Rattle.gx_base.specs.declared.calls.Made.{Made};
+    ghost use Rattle.gx_base.specs.declared.kinds.Kind.TheVariants.{Points};
+    ghost use Rattle.gx_base.specs.Kinds.{kind_number};
+    ghost use Rattle.gx_base.specs.PointKind.{spot_at, Add, Remove, Nearest, point_action, may_add, place_of};
+    ghost use Rattle.gx_base.specs.RowActions.{turns, action_next, action_reply, action_inverse};
+    ghost use Rattle.gx_base.specs.Spots as near;
+    ghost use Rattle.gx_base.specs.States.{with_row};
+    ghost use Rattle.kd_points.specs.TreeStates.{count_of, has_node};
+    ghost use Rattle.kd_points.specs.PointsState.{points_state, distances_taken, changed_room, has_points_room};
+
+    /// No points.
+    pub fn new(alloc: Global) -> KdPoints
+        ensures state { points_state result ≡ record { kind = kind_number Points; rows = map.empty } }
+        ensures looked { distances_taken result ≡ 0 }
+    {
+        KdPoints {
+            tree: Tree::new(alloc),
+            looked: 0,
+            alloc,
+        }
     }
 
-    pub fn at(&self, id: i64) -> Option<Spot> {
+    /// The point of a number.
+    pub fn at(&self, id: i64) -> Option<Spot>
+        ensures { result ≡ spot_at (points_state self.now) id }
+    {
         self.tree.at(id)
     }
 
-    pub fn count(&self) -> u64 {
+    /// How many points there are.
+    pub fn count(&self) -> u64
+        ensures { result ≡ count_of (points_state self.now) }
+    {
         self.tree.count() as u64
     }
 
-    pub fn looked(&self) -> u64 {
+    /// How many times `nearest`, in calls of `apply`, has taken the distance to a point of the tree. At the greatest
+    /// number of 64 bits the count stays.
+    pub fn looked(&self) -> u64
+        ensures { result ≡ distances_taken self.now }
+    {
         self.looked
     }
 
-    fn add(&mut self, spot: Spot) -> Result<Reply, NoMemory> {
-        if spot.id < 0 || spot.z != 0 || self.at(spot.id).is_some() {
+    /// Whether an add would change anything.
+    fn is_free(&self, call: Call) -> bool
+        ensures { result ≡ turns (may_add call) None (points_state self.now) call.a }
+    {
+        is_addable(call) && self.tree.at(call.a).is_none()
+    }
+
+    /// Whether a remove would change anything.
+    fn holds(&self, call: Call) -> bool
+        ensures { result ≡ turns true (place_of call) (points_state self.now) call.a }
+    {
+        match self.tree.at(call.a) {
+            None => false,
+            Some(point) => point.x == call.b && point.y == call.c && point.z == call.d,
+        }
+    }
+
+    fn add(&mut self, call: Call) -> Result<Reply, NoMemory>
+        ensures reply { IfOk result (λ reply. reply ≡ action_reply (point_action Add call) (points_state self.old) call.a) }
+        ensures ok { OnOk result (points_state self.new ≡ action_next (point_action Add call) (points_state self.old) call.a) }
+        ensures room { IfOk result (λ reply. IsTrue (changed_room (has_node self.new.tree (near.spot_of_call call)) reply)) }
+        ensures err { OnErr result (points_state self.new ≡ points_state self.old) }
+        ensures kept { (made : Made) → IsTrue (has_points_room self.old made) → IsTrue (has_points_room self.new made) }
+        ensures looked { distances_taken self.new ≡ distances_taken self.old }
+    {
+        if !self.is_free(call) {
             return Ok(yes_or_no(false));
         }
-        self.tree.insert(spot, None)?;
+        self.tree.insert(spot_of_call(call), None)?;
         Ok(yes_or_no(true))
     }
 
-    fn holds(&self, spot: Spot) -> bool {
-        match self.at(spot.id) {
-            None => false,
-            Some(point) => point.x == spot.x && point.y == spot.y && point.z == spot.z,
+    fn remove(&mut self, call: Call) -> Reply
+        ensures reply { result ≡ action_reply (point_action Remove call) (points_state self.old) call.a }
+        ensures state { points_state self.new ≡ action_next (point_action Remove call) (points_state self.old) call.a }
+        ensures room { IsTrue (changed_room (has_node self.new.tree (near.spot_of_call call)) result) }
+        ensures kept { (made : Made) → IsTrue (has_points_room self.old made) → IsTrue (has_points_room self.new made) }
+        ensures looked { distances_taken self.new ≡ distances_taken self.old }
+    {
+        if !self.holds(call) {
+            return yes_or_no(false);
         }
+        self.tree.take_out(call.a);
+        yes_or_no(true)
     }
 
-    fn remove(&mut self, spot: Spot) -> Reply {
-        let there = self.holds(spot);
-        if there {
-            self.tree.take_out(spot.id);
-        }
-        yes_or_no(there)
-    }
-
-    fn find_nearest(&mut self, spot: Spot) -> Result<Reply, NoMemory> {
-        let found = nearest(&self.tree, self.alloc, spot)?;
+    fn find_nearest(&mut self, call: Call) -> Result<Reply, NoMemory>
+        ensures reply { IfOk result (λ reply. reply ≡ action_reply (point_action Nearest call) (points_state self.old) call.a) }
+        ensures state { points_state self.new ≡ points_state self.old }
+        ensures kept { (made : Made) → IsTrue (has_points_room self.old made) → IsTrue (has_points_room self.new made) }
+        ensures rises { distances_taken self.old ≤ distances_taken self.new }
+        ensures err { OnErr result (self.new ≡ self.old) }
+    {
+        let found = nearest(&self.tree, self.alloc, spot_of_call(call))?;
         self.looked = self.looked.saturating_add(found.taken);
         Ok(nearest_reply(found.nearest))
     }
 
-    pub fn apply(&mut self, call: Call) -> Result<Reply, NoMemory> {
-        let spot = spot_of_call(call);
-        match deed_of(call.method) {
-            None => Ok(yes_or_no(false)),
-            Some(PointDeed::Add) => self.add(spot),
-            Some(PointDeed::Remove) => Ok(self.remove(spot)),
-            Some(PointDeed::At) => Ok(at_reply(self.at(call.a))),
-            Some(PointDeed::Nearest) => self.find_nearest(spot),
+    /// Takes the point of a changed call out, or puts it back.
+    fn set_point(&mut self, call: Call, there: bool)
+        requires { has_node self.old.tree (near.spot_of_call call) ≡ true }
+        ensures state { points_state self.new ≡ with_row (points_state self.old) (0, call.a) (if there then place_of call else None) }
+        ensures kept { (made : Made) → IsTrue (has_points_room self.old made) → IsTrue (has_points_room self.new made) }
+        ensures looked { distances_taken self.new ≡ distances_taken self.old }
+    {
+        if there {
+            self.tree.put_back(spot_of_call(call));
+        } else {
+            self.tree.take_out(call.a);
         }
-    }
-
-    pub fn undo(&mut self, call: Call, reply: Reply) {
-        if reply.p != 1 { return; }
-        match deed_of(call.method) {
-            Some(PointDeed::Add) => self.tree.take_out(call.a),
-            Some(PointDeed::Remove) => self.tree.put_back(spot_of_call(call)),
-            _ => {}
-        }
-    }
-
-    pub fn tidy(&mut self) -> Result<(), NoMemory> {
-        if !self.tree.is_lean(LEAST_REBUILT) {
-            self.tree = self.tree.rebuilt(self.alloc)?;
-        }
-        Ok(())
     }
 }

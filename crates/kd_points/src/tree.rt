@@ -1,12 +1,14 @@
-ghost use Rattle.std.specs.Prelude.{◌≡◌, ◌≢◌, ◌<◌, ◌≤◌, true, is_some, Some, None, OnOk, OnErr, IfOk, IfSome, IfNone};
+ghost use Rattle.std.specs.Prelude.{◌≡◌, ◌≢◌, ◌<◌, ◌≤◌, true, is_some, Some, None, OnOk, OnErr, IfOk, IfSome, IfNone, IsTrue, ◌↔◌};
 ghost use Rattle.gx_base.specs.declared.calls.Spot.{Spot as a_spot};
 ghost use Rattle.gx_base.specs.PointKind.{spot_at};
 ghost use Rattle.gx_base.specs.States.{with_row, row_at};
 ghost use Rattle.slab.specs.Slab.{get, slab_len, Updates};
 ghost use Rattle.kd_points.specs.Trees.{IsSeat, is_found, IsOwner};
-ghost use Rattle.kd_points.specs.TreeStates.{node_at, key_of, place, tree_state, count_of, IsSound, has_node, NoPoint, KeepsNodes};
+ghost use Rattle.kd_points.specs.TreeStates.{node_at, key_of, place, tree_state, count_of, IsSound, has_node, NoPoint, IsBlank};
+ghost use Rattle.kd_points.specs.Rebuilding.{IsLean};
 
 use crate::nodes::{Node, Seat, child, is_left, is_point_of, is_same};
+use crate::rebuild::LEAST_REBUILT;
 use gx_base::{NoMemory, Spot};
 use indexmap::IndexMap;
 use slab::Slab;
@@ -25,7 +27,9 @@ pub struct Tree {
 }
 
 impl Tree {
-    pub fn new(alloc: Global) -> Tree {
+    pub fn new(alloc: Global) -> Tree
+        ensures { IsBlank result }
+    {
         Tree {
             nodes: Slab::new(alloc),
             root: None,
@@ -36,7 +40,9 @@ impl Tree {
     }
 
     /// A tree with room for so many points.
-    pub fn with_capacity(alloc: Global, points: usize) -> Result<Tree, NoMemory> {
+    pub fn with_capacity(alloc: Global, points: usize) -> Result<Tree, NoMemory>
+        ensures { IfOk result IsBlank }
+    {
         Ok(Tree {
             nodes: Slab::with_capacity(alloc, points)?,
             root: None,
@@ -58,15 +64,19 @@ impl Tree {
         self.live
     }
 
-    /// Whether fewer than `least` nodes stand in the tree, or at most half of them are dead and at most half were put
-    /// in one by one.
-    pub fn is_lean(&self, least: usize) -> bool {
+    /// Whether a rebuild would be for little.
+    pub fn is_lean(&self) -> bool
+        ensures { IsTrue result ↔ IsLean self.now }
+    {
         let nodes = self.nodes.len();
-        nodes < least || (nodes.saturating_sub(self.live) <= nodes / 2 && self.grown <= nodes / 2)
+        let half = nodes / 2;
+        nodes < LEAST_REBUILT || (nodes.saturating_sub(self.live) <= half && self.grown <= half)
     }
 
     /// From now on the nodes count as put in at once.
-    pub fn settle(&mut self) {
+    pub fn settle(&mut self)
+        ensures { self.new ≡ record self.old { grown = 0 } }
+    {
         self.grown = 0;
     }
 

@@ -1,5 +1,5 @@
 -- A new point, as the code puts it in.
-use Rattle.std.specs.Prelude.{◌≡◌, ℕ, ℤ, suc, ◌+◌, Bool, true, false, cond, Option, Some, None, List, is_some, count_by, slice_index_or, refl}
+use Rattle.std.specs.Prelude.{◌≡◌, ℕ, ℤ, suc, ◌+◌, ◌-◌, ◌≤◌, Bool, true, false, cond, Option, Some, None, List, is_some, count_by, slice_index_or, refl}
 use Rattle.std.proofs.Common.{sym, ◌∙◌, ap, subst, arith}
 use Rattle.std.specs.Map.{lookup}
 use Rattle.std.specs.Ordering.{int_eq}
@@ -11,7 +11,7 @@ use Rattle.kd_points.specs.declared.nodes.Node.{Node}
 use Rattle.kd_points.specs.declared.nodes.Seat.TheVariants.{Free}
 use Rattle.kd_points.specs.declared.tree.Tree.{Tree}
 use Rattle.kd_points.specs.Trees.{Nodes, child, way, is_left, leaf_of, linked, FitsSpot, IsTree, IsSeat}
-use Rattle.kd_points.specs.TreeStates.{node_at, key_of, place, rows_of, tree_state, count_of, IsSound, IsAlike, IsPlanted, has_node, NoPoint}
+use Rattle.kd_points.specs.TreeStates.{node_at, key_of, place, rows_of, tree_state, count_of, dead_nodes, IsSound, IsAlike, IsPlanted, has_node, NoPoint}
 use Rattle.kd_points.proofs.states.Basics.{none_some, some_is}
 use Rattle.kd_points.proofs.states.StateRows.{with_rows, Settles}
 use Rattle.kd_points.proofs.states.Counts.{count-more}
@@ -40,16 +40,20 @@ pub record Grown (old new : Tree) (spot : Spot) : Type 0 where
   pub counted : count_of (tree_state new) ≡ new.live + 1
   pub changed : Changed old (record new { live = new.live + 1 }) spot.id (Some (place spot))
   pub held : has_node new spot ≡ true
+  pub size : slab_len new.nodes ≡ slab_len old.nodes + 1
+  pub live : new.live ≡ old.live
 
 grown_by : (old new : Tree) (spot : Spot) (key : ℕ) (leaf : Node) → IsSound old → NoPoint old spot.id → IsTree (node_at new) new.root (slab_len new.nodes) (key_of new)
-    → Settles (node_at old) (node_at new) (key_of old) (key_of new) spot.id (Some (place spot)) → AllStay (node_at old) (node_at new) → new.live ≡ old.live → node_at new key ≡ Some leaf → leaf.spot ≡ spot → Grown old new spot
-grown_by old new spot key leaf s free t rows stays live here same =
+    → Settles (node_at old) (node_at new) (key_of old) (key_of new) spot.id (Some (place spot)) → AllStay (node_at old) (node_at new) → new.live ≡ old.live → node_at new key ≡ Some leaf → leaf.spot ≡ spot → slab_len new.nodes ≡ slab_len old.nodes + 1 → Grown old new spot
+grown_by old new spot key leaf s free t rows stays live here same size =
     let state : tree_state new ≡ with_row (tree_state old) (0, spot.id) (Some (place spot)) = settled_state old new spot.id (Some (place spot)) rows in
     let more : count_of (tree_state new) ≡ new.live + 1 = ap count_of state ∙ count-more (tree_state old) (0, spot.id) (place spot) free ∙ ap (λ c. c + 1) (sym s.counted) ∙ ap (λ c. c + 1) (sym live) in
     record {
       counted = more;
       changed = record { sound = record { placed = t; counted = sym more }; state = state; kept = nodes_kept old new stays };
       held = holds-at new.nodes.slots key leaf spot here same;
+      size = size;
+      live = live;
     }
 
 -- behind a node
@@ -90,7 +94,7 @@ module _ (old mid new : Tree) (spot : Spot) (axis : Axis) (key at : ℕ) (n : No
       (subst (λ (x : Node). way (node_at old) spot x.depth old.root ≡ Some at) same seat.4) (ap (λ (x : Node). is_left x spot) (sym same) ∙ seat.3) (bare_leaf axis spot (n.depth + 1)) (omega arith) fits numbers
       (others_live old spot.id s free) refl)
       (grown_stays (node_at old) (node_at new) key at n leaf left p.vacant stood open_side here u.changed others)
-      (ap (λ (t : Tree). t.live) rest ∙ p.live) here refl
+      (ap (λ (t : Tree). t.live) rest ∙ p.live) here refl (size ∙ p.size)
 
 -- as the root
 pub rooted_from : (old mid : Tree) (spot : Spot) (axis : Axis) (key : ℕ) → IsSound old → NoPoint old spot.id → old.root ≡ None → IsPlanted old mid key (leaf_of axis spot 0) → FitsSpot spot → Grown old (record mid { root = Some key }) spot
@@ -101,4 +105,8 @@ rooted_from old mid spot axis key s free none p fits =
     (first_tree (node_at old) (node_at mid) key (leaf_of axis spot 0) p.vacant p.nodes.changed p.nodes.others (slab_len old.nodes) (key_of old) (key_of mid) t (bare_leaf axis spot 0) refl fits p.keys))
     (first_rows (node_at old) (node_at mid) key (leaf_of axis spot 0) p.vacant p.nodes.changed p.nodes.others (slab_len old.nodes) (key_of old) (key_of mid) t (bare_leaf axis spot 0) refl fits p.keys refl)
     (first_stays (node_at old) (node_at mid) key (leaf_of axis spot 0) p.vacant p.nodes.changed p.nodes.others (slab_len old.nodes) (key_of old) (key_of mid) t (bare_leaf axis spot 0) refl fits p.keys)
-    p.live p.nodes.changed refl
+    p.live p.nodes.changed refl p.size
+
+-- a new node is live, and one that was dead may have become so
+pub no_more_dead : (old new : Tree) → slab_len new.nodes ≤ slab_len old.nodes + 1 → new.live ≡ old.live → dead_nodes (record new { live = new.live + 1 }) ≤ dead_nodes old
+no_more_dead old new size live = omega arith
