@@ -3,3 +3,4 @@ pub mod trees
 pub mod searches
 pub mod rebuilds
 pub mod tables
+pub mod calls

@@ -10,7 +10,8 @@ use Rattle.gx_base.specs.declared.calls.Spot.{Spot}
 use Rattle.gx_base.specs.declared.kinds.Kind.{Kind}
 use Rattle.gx_base.specs.declared.kinds.Kind.TheVariants.{Points}
 use Rattle.gx_base.specs.Methods.{is_method}
-use Rattle.gx_base.specs.PointKind.{PointDeed, Add, Remove, At, Nearest, Nothing, point_deed}
+use Rattle.gx_base.specs.PointKind.{PointDeed, Add, Remove, At, Nearest, Nothing, point_deed, point_action}
+use Rattle.gx_base.specs.RowActions.{RowAction}
 use Rattle.gx_base.specs.Spots.{spot_of_call}
 use Rattle.gx_base.specs.States.{State}
 use Rattle.gx_base.specs.Steps.{IsState}
@@ -26,6 +27,10 @@ points_state points = tree_state points.tree
 -- how many distances `nearest` has taken, up to the greatest number of 64 bits
 abbrev pub distances_taken : KdPoints → ℕ
 distances_taken points = points.looked
+
+-- an add, or a remove, as it acts on the row of its point
+abbrev pub change_of : Bool → Call → RowAction
+change_of added c = if added then point_action Add c else point_action Remove c
 
 -- a call that replied 1 changed its point's node
 abbrev pub changed_room : Bool → Reply → Bool

@@ -23,7 +23,7 @@ use Rattle.kd_points.proofs.states.StateRows.{with_rows, row_found, get-rows_of,
 use Rattle.kd_points.proofs.searches.Ends.{live_there, there_live}
 
 -- a row is the place of the point
-abbrev place_row : Option Spot → Option (List ℤ)
+abbrev pub place_row : Option Spot → Option (List ℤ)
 place_row None = None
 place_row (Some r) = Some (place r)
 
@@ -267,3 +267,6 @@ walk_done tree spots left s e w r = (λ h. live_there tree r s (w.only r h), λ 
 
     by_live : IsLive (node_at tree) r → Contains spots r
     by_live l = let x : (n : Node) × (node_at tree l.0 ≡ Some n) × (n.live ≡ true) × (n.spot ≡ r) = node_where (node_at tree l.0) r l.1 in by_every l.0 x.0 x.3 (w.every l.0 x.0 x.1 x.2)
+
+pub blank_state : (tree : Tree) → IsBlank tree → tree_state tree ≡ with_rows map.empty
+blank_state tree b = ap (λ es. with_rows (rows_of (node_at tree) es)) b.entries
