@@ -17,7 +17,8 @@ use Rattle.gx_base.specs.States.{State}
 use Rattle.gx_base.specs.Steps.{IsState}
 use Rattle.gx_base.proofs.CallerLemmas.{point_deed-foreign}
 use Rattle.kd_points.specs.declared.point_set.KdPoints.{KdPoints}
-use Rattle.kd_points.specs.TreeStates.{tree_state, has_node}
+use Rattle.kd_points.specs.TreeStates.{tree_state, dead_nodes, has_node}
+use Rattle.kd_points.specs.Rebuilding.{IsLean}
 use Rattle.kd_points.specs.TreePlaces.{tree_state-HoldsPlaces}
 
 -- the state of points
@@ -46,6 +47,14 @@ room_for Nothing there reply = true
 -- a call that changed a node has it, so it is undone and done again by a mark
 abbrev pub has_points_room : KdPoints → Made → Bool
 has_points_room points made = room_for (point_deed made.call.method) (has_node points.tree (spot_of_call made.call)) made.reply
+
+-- how many nodes hold no point
+abbrev pub dead_nodes_of : KdPoints → ℕ
+dead_nodes_of points = dead_nodes points.tree
+
+-- a rebuild would be for little
+abbrev pub IsTrim : KdPoints → Type 0
+IsTrim points = IsLean points.tree
 
 abbrev pub holds_points : Kind → Bool
 holds_points Points = true

@@ -9,6 +9,7 @@
 #![tactic(auto)]
 
 mod growth;
+pub mod laws;
 mod nodes;
 mod point_calls;
 pub mod point_methods;

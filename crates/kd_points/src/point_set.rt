@@ -175,10 +175,8 @@ impl SeqType for KdPoints {
     ghost use Rattle.gx_base.specs.ShippedTables.{IsShipped};
     ghost use Rattle.gx_base.specs.Steps.{next_state, reply_to, inverse};
     ghost use Rattle.kd_points.specs.PointTables.{point_tables};
-    ghost use Rattle.kd_points.specs.PointsState.{points_state, distances_taken, has_points_room, holds_points, foreign-has_points_room, points_state-IsState};
-    ghost use Rattle.kd_points.specs.Rebuilding.{IsLean};
+    ghost use Rattle.kd_points.specs.PointsState.{points_state, distances_taken, has_points_room, dead_nodes_of, IsTrim, holds_points, foreign-has_points_room, points_state-IsState};
     ghost use Rattle.kd_points.specs.SuitedTables.{point_tables-SuitKind};
-    ghost use Rattle.kd_points.specs.TreeStates.{dead_nodes};
 
     ghost state = { points_state };
 
@@ -257,9 +255,9 @@ impl SeqType for KdPoints {
     fn tidy(&mut self) -> Result<(), NoMemory>
         ensures state { points_state self.new ≡ points_state self.old }
         ensures looked { distances_taken self.new ≡ distances_taken self.old }
-        ensures lean { OnOk result (IsLean self.new.tree) }
-        ensures dropped { ¬ (IsLean self.old.tree) → OnOk result (dead_nodes self.new.tree ≡ 0) }
-        ensures idle { IsLean self.old.tree → IsOk result × (self.new ≡ self.old) }
+        ensures trim { OnOk result (IsTrim self.new) }
+        ensures dropped { ¬ (IsTrim self.old) → OnOk result (dead_nodes_of self.new ≡ 0) }
+        ensures idle { IsTrim self.old → IsOk result × (self.new ≡ self.old) }
         ensures refused { OnErr result (self.new ≡ self.old) }
     {
         if self.tree.is_lean() {
