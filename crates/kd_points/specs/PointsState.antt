@@ -1,12 +1,10 @@
 -- What points stand for.
-use Rattle.std.specs.Prelude.{◌≡◌, ℕ, ℤ, pos, Bool, true, false, Option, Some, None, List, [], ◌∷◌, IsTrue, if◌then◌else◌, refl}
-use Rattle.std.proofs.Common.{sym, ◌∙◌, ap, subst}
-use Rattle.std.specs.FinMap as map
+use Rattle.std.specs.Prelude.{◌≡◌, ℕ, pos, Bool, true, false, IsTrue, if◌then◌else◌, refl}
+use Rattle.std.proofs.Common.{sym, subst}
 use Rattle.std.specs.Ordering.{int_eq}
 use Rattle.gx_base.specs.declared.calls.Call.{Call}
 use Rattle.gx_base.specs.declared.calls.Made.{Made}
 use Rattle.gx_base.specs.declared.calls.Reply.{Reply}
-use Rattle.gx_base.specs.declared.calls.Spot.{Spot}
 use Rattle.gx_base.specs.declared.kinds.Kind.{Kind}
 use Rattle.gx_base.specs.declared.kinds.Kind.TheVariants.{Points}
 use Rattle.gx_base.specs.Methods.{is_method}

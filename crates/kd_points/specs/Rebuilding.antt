@@ -1,5 +1,5 @@
 -- A tree that is made anew, out of a list of points.
-use Rattle.std.specs.Prelude.{◌≡◌, ℕ, ◌*◌, ◌≤◌, ℤ, true, is_some, Some, List, ◌⊎◌}
+use Rattle.std.specs.Prelude.{◌≡◌, ◌*◌, ◌≤◌, ℤ, true, is_some, Some, List, ◌⊎◌}
 use Rattle.std.specs.List.{Contains}
 use Rattle.gx_base.specs.declared.calls.Spot.{Spot}
 use Rattle.gx_base.specs.PointKind.{spot_at}

@@ -1,11 +1,11 @@
 -- The search for the nearest point: what has been found, and what is still to be visited.
-use Rattle.std.specs.Prelude.{◌≡◌, ℕ, zero, suc, ◌+◌, ◌-◌, ◌≤◌, Bool, true, false, not, ◌&&◌, Option, Some, None, List, [], ◌∷◌, ◌++◌, ◌⊎◌, if◌then◌else◌}
+use Rattle.std.specs.Prelude.{◌≡◌, ℕ, zero, suc, ◌≤◌, Bool, false, not, ◌&&◌, Option, Some, None, List, [], ◌∷◌, ◌++◌, ◌⊎◌, if◌then◌else◌}
 use Rattle.std.specs.Ordering.{int_eq}
 use Rattle.gx_base.specs.declared.calls.Spot.{Spot}
 use Rattle.gx_base.specs.Spots.{beyond, distance, square}
 use Rattle.kd_points.specs.declared.nodes.Node.{Node}
 use Rattle.kd_points.specs.declared.search.Pending.{Pending}
-use Rattle.kd_points.specs.Trees.{Nodes, IsNodeOf, IsLive, coordinate, is_left, child, child_of, depth_of}
+use Rattle.kd_points.specs.Trees.{Nodes, IsNodeOf, IsLive, coordinate, is_left, child, child_of}
 
 -- after so many steps the spot's way from here comes to its live node
 abbrev pub Leads : Nodes → Spot → ℕ → Option ℕ → Type 0

@@ -1,5 +1,5 @@
 -- Trees of points: which node stands where, and where the way of a spot leads.
-use Rattle.std.specs.Prelude.{◌≡◌, ℕ, zero, suc, ◌<◌, ℤ, Bool, true, false, Option, Some, None, is_some, ◌&&◌, if◌then◌else◌, FitsSigned, ◌⊎◌}
+use Rattle.std.specs.Prelude.{◌≡◌, ℕ, zero, suc, ◌<◌, ℤ, Bool, true, false, Option, Some, None, is_some, ◌&&◌, if◌then◌else◌, FitsSigned}
 use Rattle.std.specs.Int.{w64}
 use Rattle.std.specs.Ordering.{int_cmp, int_eq, ordering_then, is_lt}
 use Rattle.std.specs.declared.cmp.Ordering.{Ordering}

@@ -53,7 +53,13 @@ fn nearest_and_add(alloc: Global, nearest_first: bool) -> Result<Cond, NoMemory>
 {
     if nearest_first {
         let unseen = either(alloc, changed_nothing(Side::Second), own_number())?;
-        let farther = found_nearer(alloc, Side::First, Part::ArgFirst, Part::ArgSecond, Part::RepFirst)?;
+        let farther = found_nearer(
+            alloc,
+            Side::First,
+            Part::ArgFirst,
+            Part::ArgSecond,
+            Part::RepFirst,
+        )?;
         either(alloc, unseen, farther)
     } else {
         let another = Cond::Ne(Term::Value(Side::First, 0), Term::Value(Side::Second, 4));
@@ -70,7 +76,13 @@ fn nearest_and_remove(alloc: Global, nearest_first: bool) -> Result<Cond, NoMemo
         either(alloc, changed_nothing(Side::Second), another)
     } else {
         let unseen = either(alloc, changed_nothing(Side::First), own_number())?;
-        let farther = found_nearer(alloc, Side::Second, Part::ArgSecond, Part::ArgFirst, Part::RepSecond)?;
+        let farther = found_nearer(
+            alloc,
+            Side::Second,
+            Part::ArgSecond,
+            Part::ArgFirst,
+            Part::RepSecond,
+        )?;
         either(alloc, unseen, farther)
     }
 }
@@ -106,7 +118,8 @@ fn simple_row(first: PointDeed, second: PointDeed) -> Cond
 {
     match (first, second) {
         (PointDeed::At | PointDeed::Nearest, PointDeed::At | PointDeed::Nearest) => Cond::True,
-        (PointDeed::Nearest, PointDeed::Add) | (PointDeed::Remove, PointDeed::Nearest) => Cond::False,
+        (PointDeed::Nearest, PointDeed::Add) | (PointDeed::Remove, PointDeed::Nearest) =>
+            Cond::False,
         (PointDeed::Nearest, PointDeed::Remove) => {
             Cond::Ne(Term::Value(Side::First, 4), Term::Value(Side::Second, 0))
         }

@@ -58,8 +58,10 @@ impl Tree {
             return Ok(());
         }
         let axis = widest(spots);
-        let (front, middle, back) = spots
-            .select_nth_unstable_by(count / 2, |p: &Spot, q: &Spot| order(axis, *p, *q));
+        let (front, middle, back) = spots.select_nth_unstable_by(
+            count / 2,
+            |p: &Spot, q: &Spot| order(axis, *p, *q),
+        );
         self.insert_new(*middle, axis)?;
         self.insert_all(front)?;
         self.insert_all(back)

@@ -90,12 +90,7 @@ fn push_side(waiting: &mut Vec<Pending>, side: Option<usize>, reach: u128) -> Re
 }
 
 /// Notes both sides of a node, the near one last, so that it is visited first.
-fn push_sides(
-    waiting: &mut Vec<Pending>,
-    node: Node,
-    q: Spot,
-    reach: u128,
-) -> Result<(), NoMemory>
+fn push_sides(waiting: &mut Vec<Pending>, node: Node, q: Spot, reach: u128) -> Result<(), NoMemory>
     ensures sides { OnOk result (waiting.new.items ≡ waiting.old.items ++ sides_of q node reach) }
     ensures fits { to_plane q node ≤ near.far }
 {

@@ -1,5 +1,5 @@
 -- What calls of points ask of a row.
-use Rattle.std.specs.Prelude.{◌≡◌, ℕ, ℤ, pos, Bool, true, false, ◌&&◌, Option, Some, None, List, [], ◌∷◌, if◌then◌else◌, slice_index_or, IsTrue, refl}
+use Rattle.std.specs.Prelude.{◌≡◌, ℕ, ℤ, pos, Bool, true, false, ◌&&◌, Option, Some, None, List, if◌then◌else◌, slice_index_or, IsTrue, refl}
 use Rattle.std.proofs.Common.{sym, ◌∙◌, ap, subst}
 use Rattle.std.specs.Ordering.{int_eq}
 use Rattle.gx_base.specs.declared.calls.Call.{Call}
@@ -7,7 +7,7 @@ use Rattle.gx_base.specs.declared.calls.Reply.{Reply}
 use Rattle.gx_base.specs.declared.calls.Spot.{Spot}
 use Rattle.gx_base.specs.Meanings.{number_reply}
 use Rattle.gx_base.specs.PointKind.{spot_of, spot_at, place_of}
-use Rattle.gx_base.specs.RowActions.{Turn, turns, action_next, action_reply, action_inverse, same_content}
+use Rattle.gx_base.specs.RowActions.{Turn, turns, action_next, action_reply, same_content}
 use Rattle.gx_base.specs.Spots.{spot_of_call}
 use Rattle.gx_base.proofs.CallerLemmas.{same_content-is}
 use Rattle.gx_base.specs.States.{State, row_at, with_row}

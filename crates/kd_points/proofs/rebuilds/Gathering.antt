@@ -1,5 +1,5 @@
 -- A tree that is made anew has the points that were put in.
-use Rattle.std.specs.Prelude.{◌≡◌, ℕ, zero, suc, ◌+◌, ◌-◌, ◌<◌, ◌≤◌, ℤ, Bool, true, false, cond, Option, Some, None, List, [], ◌∷◌, ◌++◌, length, is_some, count_by, slice_index_or, ◌↔◌, if◌then◌else◌, Result, Ok, Err, OnOk, refl, ◌⊎◌}
+use Rattle.std.specs.Prelude.{◌≡◌, ℕ, zero, suc, ◌+◌, ◌<◌, ◌≤◌, ℤ, Bool, true, false, cond, Option, Some, None, List, [], ◌∷◌, ◌++◌, length, is_some, count_by, slice_index_or, ◌↔◌, if◌then◌else◌, Result, Ok, Err, OnOk, refl, ◌⊎◌}
 use Rattle.std.proofs.Common.{sym, ◌∙◌, ap, subst, arith, inl, inr, length-append}
 use Rattle.std.specs.FinMap as map
 use Rattle.std.specs.List.{Contains}
@@ -18,7 +18,7 @@ use Rattle.kd_points.specs.NearestPoints.{spot_at-with}
 use Rattle.kd_points.specs.Trees.{Nodes, is_point_of, IsNodeOf, IsLive}
 use Rattle.kd_points.specs.TreeStates.{node_at, key_of, place, row_of_node, rows_of, tree_state, dead_nodes, count_of, IsSound, IsBlank, NoPoint}
 use Rattle.kd_points.specs.Rebuilding.{IsPointOf, HasPoint, Gathers, IsRebuilt}
-use Rattle.kd_points.proofs.states.Basics.{none_some, some_is, some_of, same_int, int_eq-of, not_both}
+use Rattle.kd_points.proofs.states.Basics.{none_some, some_is, same_int, int_eq-of, not_both}
 use Rattle.kd_points.proofs.states.StateRows.{with_rows, row_found, get-rows_of, rows_of-same}
 use Rattle.kd_points.proofs.searches.Ends.{live_there, there_live}
 

@@ -1,19 +1,17 @@
 -- A search that has nothing left to visit has found the nearest point.
-use Rattle.std.specs.Prelude.{◌≡◌, ℕ, ℤ, Bool, true, false, Option, Some, None, List, [], ◌∷◌, if◌then◌else◌, refl, ◌⊎◌}
+use Rattle.std.specs.Prelude.{◌≡◌, ℕ, ℤ, Bool, true, false, Option, Some, None, [], if◌then◌else◌, refl, ◌⊎◌}
 use Rattle.std.proofs.Common.{sym, ◌∙◌, ap, subst, inl, inr}
-use Rattle.std.specs.Map.{lookup}
 use Rattle.std.specs.Ordering.{int_eq}
 use Rattle.gx_base.specs.declared.calls.Spot.{Spot}
-use Rattle.gx_base.specs.States.{row_at}
 use Rattle.gx_base.specs.PointKind.{spot_of, spot_at, nearest}
 use Rattle.kd_points.specs.declared.nodes.Node.{Node}
 use Rattle.kd_points.specs.declared.tree.Tree.{Tree}
-use Rattle.kd_points.specs.NearestPoints.{IsOther, IsNearest, nearest-when}
-use Rattle.kd_points.specs.Trees.{Nodes, is_point_of, IsNodeOf, IsLive}
+use Rattle.kd_points.specs.NearestPoints.{IsNearest, nearest-when}
+use Rattle.kd_points.specs.Trees.{is_point_of, IsNodeOf, IsLive}
 use Rattle.kd_points.specs.TreeStates.{node_at, key_of, place, row_of_node, tree_state, IsSound}
-use Rattle.kd_points.specs.Searches.{Within, IsLiveOther, IsAwaitedIn, IsSearched}
+use Rattle.kd_points.specs.Searches.{Within, IsAwaitedIn, IsSearched}
 use Rattle.kd_points.proofs.states.Basics.{none_some, some_is, and_parts, same_int}
-use Rattle.kd_points.proofs.states.StateRows.{with_rows, row_found, get-rows_of, owner_spot}
+use Rattle.kd_points.proofs.states.StateRows.{row_found, get-rows_of, owner_spot}
 
 -- a live node's point is in the state
 pub live_there : (tree : Tree) (r : Spot) → IsSound tree → IsLive (node_at tree) r → spot_at (tree_state tree) r.id ≡ Some r

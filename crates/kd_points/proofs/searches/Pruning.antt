@@ -1,10 +1,10 @@
 -- When a side of a plane may be left out.
-use Rattle.std.specs.Prelude.{◌≡◌, ℕ, ℤ, ◌<◌, ◌≤◌, ◌+◌, ◌*◌, ◌-ℤ◌, Bool, true, false, not, cond, int_lt, nat_lt, ◌==◌, min, unsigned_abs, Option, Some, refl}
-use Rattle.std.proofs.Common.{sym, ◌∙◌, ap, subst, arith, rules}
+use Rattle.std.specs.Prelude.{◌≡◌, ℕ, ℤ, ◌<◌, ◌≤◌, ◌+◌, ◌*◌, ◌-ℤ◌, Bool, true, false, not, cond, int_lt, nat_lt, ◌==◌, min, unsigned_abs, refl}
+use Rattle.std.proofs.Common.{arith}
 use Rattle.std.proofs.Math.Nat.{mul-le-mul_left, mul-le-mul_right}
 use Rattle.std.specs.declared.cmp.Ordering.{Ordering}
 use Rattle.std.specs.declared.cmp.Ordering.TheVariants.{Less, Equal, Greater}
-use Rattle.std.specs.Ordering.{is_gt, is_lt, ordering_then, nat_cmp, int_cmp}
+use Rattle.std.specs.Ordering.{is_gt, is_lt, ordering_then, int_cmp}
 use Rattle.std.specs.Int.{int_min, int_max}
 use Rattle.gx_base.specs.declared.calls.Spot.{Spot}
 use Rattle.gx_base.specs.Spots.{square, distance, far, pk, beyond}
@@ -12,7 +12,7 @@ use Rattle.kd_points.specs.declared.nodes.Axis.{Axis}
 use Rattle.kd_points.specs.declared.nodes.Axis.TheVariants.{X, Y}
 use Rattle.kd_points.specs.declared.nodes.Node.{Node}
 use Rattle.kd_points.specs.Trees.{coordinate, is_left}
-use Rattle.kd_points.specs.Searches.{Within, to_plane}
+use Rattle.kd_points.specs.Searches.{to_plane}
 
 -- what stands between two numbers is no farther from either than they are apart
 between_rising : (q s r : ℤ) → int_lt s q ≡ false → int_lt r s ≡ false → unsigned_abs (q -ℤ s) ≤ unsigned_abs (q -ℤ r)

@@ -1,6 +1,6 @@
 -- How many points there are.
 use Rattle.std.specs.Prelude.{◌≡◌, ℕ, zero, suc, ◌+◌, ◌-◌, ◌≤◌, ℤ, Bool, true, false, cond, Option, Some, None, List, [], ◌∷◌, length, is_some, refl}
-use Rattle.std.proofs.Common.{sym, ◌∙◌, ap, subst, arith, add-one}
+use Rattle.std.proofs.Common.{sym, ◌∙◌, ap, arith}
 use Rattle.std.specs.FinMap as map
 use Rattle.gx_base.specs.States.{State, row_cmp, rows_put, row_at, with_row}
 use Rattle.gx_base.proofs.CallerLemmas.{row_cmp_total}

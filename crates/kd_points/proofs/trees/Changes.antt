@@ -1,16 +1,16 @@
 -- What marks and new nodes make of a tree and of its state.
-use Rattle.std.specs.Prelude.{◌≡◌, ℕ, ℤ, suc, ◌+◌, ◌-◌, ◌≤◌, Bool, true, false, cond, Option, Some, None, List, is_some, refl, ◌⊎◌}
-use Rattle.std.proofs.Common.{sym, ◌∙◌, ap, subst, inl, inr, arith}
+use Rattle.std.specs.Prelude.{◌≡◌, ℕ, ℤ, ◌+◌, ◌-◌, ◌≤◌, Bool, true, false, cond, Option, Some, None, List, is_some, refl, ◌⊎◌}
+use Rattle.std.proofs.Common.{sym, ◌∙◌, ap, subst, inl, inr}
 use Rattle.std.specs.Ordering.{int_eq}
 use Rattle.gx_base.specs.declared.calls.Spot.{Spot}
-use Rattle.gx_base.specs.States.{row_at, with_row}
+use Rattle.gx_base.specs.States.{with_row}
 use Rattle.slab.specs.Slab.{slab_len, Updates}
 use Rattle.kd_points.specs.declared.nodes.Node.{Node}
 use Rattle.kd_points.specs.declared.tree.Tree.{Tree}
-use Rattle.kd_points.specs.Trees.{Nodes, IsTree, IsOwner}
-use Rattle.kd_points.specs.TreeStates.{node_at, key_of, place, row_of_node, rows_of, tree_state, count_of, IsSound, has_node, NoPoint, KeepsNodes}
+use Rattle.kd_points.specs.Trees.{IsTree, IsOwner}
+use Rattle.kd_points.specs.TreeStates.{node_at, key_of, place, row_of_node, tree_state, count_of, IsSound, NoPoint, KeepsNodes}
 use Rattle.kd_points.proofs.states.Basics.{same_key, same_int, int_eq-of, int_eq-itself, int_eq-comm, false_of, not_both, none_some, some_is}
-use Rattle.kd_points.proofs.states.StateRows.{with_rows, row_found, Settles, rows_of-with, row_of_live, row_of_dead, row_of_another, row_of_alike, owner_row, get-rows_of}
+use Rattle.kd_points.proofs.states.StateRows.{with_rows, row_found, Settles, rows_of-with, row_of_live, row_of_dead, row_of_another, owner_row, get-rows_of}
 use Rattle.kd_points.proofs.states.Counts.{count-more, count-less, count-some}
 use Rattle.kd_points.proofs.trees.Ways.{Amends, AllStay, there_still}
 use Rattle.kd_points.proofs.trees.Holders.{Holds, holds-at, holds-where}
@@ -162,6 +162,7 @@ woken_from old mid new spot key given s free there e u size rest keys more =
     let live : new.live ≡ old.live = ap (λ (t : Tree). t.live) more ∙ ap (λ (t : Tree). t.live) rest in
     let root : new.root ≡ old.root = ap (λ (t : Tree). t.root) more ∙ ap (λ (t : Tree). t.root) rest in
     let updates : Updates old.nodes new.nodes key (Some (record there.0 { live = true })) = subst (λ ns. Updates old.nodes ns key (Some (record there.0 { live = true }))) (sym nodes) (u there.0 there.1) in
-    let len : slab_len new.nodes ≡ slab_len old.nodes = ap slab_len nodes ∙ size in
-    (one_woken old new spot key there.0 s free there.1 there.2 updates numbers root len ∙ ap (λ c. c + 1) (sym live),
-     woken old (record new { live = new.live + 1 }) spot key there.0 s free there.1 there.2 updates numbers root len (ap (λ c. c + 1) live))
+    let len : slab_len new.nodes ≡ slab_len old.nodes = ap slab_len nodes ∙ size in (
+      one_woken old new spot key there.0 s free there.1 there.2 updates numbers root len ∙ ap (λ c. c + 1) (sym live),
+      woken old (record new { live = new.live + 1 }) spot key there.0 s free there.1 there.2 updates numbers root len (ap (λ c. c + 1) live),
+    )

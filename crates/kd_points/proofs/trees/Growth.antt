@@ -1,12 +1,12 @@
 -- What a new node makes of a tree.
-use Rattle.std.specs.Prelude.{◌≡◌, ℕ, ℤ, suc, ◌+◌, ◌<◌, Bool, true, false, cond, Option, Some, None, List, is_some, refl, ◌⊎◌}
+use Rattle.std.specs.Prelude.{◌≡◌, ℕ, ℤ, suc, ◌+◌, ◌<◌, Bool, true, false, cond, Option, Some, None, is_some, refl, ◌⊎◌}
 use Rattle.std.proofs.Common.{sym, ◌∙◌, ap, subst, inl, inr, arith}
 use Rattle.std.specs.Ordering.{int_eq}
 use Rattle.gx_base.specs.declared.calls.Spot.{Spot}
 use Rattle.kd_points.specs.declared.nodes.Node.{Node}
 use Rattle.kd_points.specs.Trees.{Nodes, is_left, child, child_of, way, depth_of, linked, FitsSpot, IsTree}
 use Rattle.kd_points.specs.TreeStates.{place, row_of_node}
-use Rattle.kd_points.proofs.states.Basics.{same_key, same_int, int_eq-of, int_eq-itself, int_eq-comm, none_some, some_is}
+use Rattle.kd_points.proofs.states.Basics.{same_key, int_eq-itself, int_eq-comm, none_some, some_is}
 use Rattle.kd_points.proofs.states.StateRows.{row_found, Settles, row_of_live, row_of_another, row_of_alike}
 use Rattle.kd_points.proofs.trees.Ways.{Amends, amends_itself, Stays, stays_itself, AllStay, ended, way_further, way_kept, depth_stays}
 use Rattle.kd_points.proofs.trees.Changes.{cond_true, cond_false, some_kept}

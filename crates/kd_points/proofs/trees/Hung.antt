@@ -1,5 +1,5 @@
 -- A new point, as the code puts it in.
-use Rattle.std.specs.Prelude.{◌≡◌, ℕ, ℤ, suc, ◌+◌, ◌-◌, ◌≤◌, Bool, true, false, cond, Option, Some, None, List, is_some, count_by, slice_index_or, refl}
+use Rattle.std.specs.Prelude.{◌≡◌, ℕ, ℤ, ◌+◌, ◌≤◌, Bool, true, false, cond, Option, Some, None, List, is_some, count_by, slice_index_or, refl}
 use Rattle.std.proofs.Common.{sym, ◌∙◌, ap, subst, arith}
 use Rattle.std.specs.Map.{lookup}
 use Rattle.std.specs.Ordering.{int_eq}
@@ -10,7 +10,7 @@ use Rattle.kd_points.specs.declared.nodes.Axis.{Axis}
 use Rattle.kd_points.specs.declared.nodes.Node.{Node}
 use Rattle.kd_points.specs.declared.nodes.Seat.TheVariants.{Free}
 use Rattle.kd_points.specs.declared.tree.Tree.{Tree}
-use Rattle.kd_points.specs.Trees.{Nodes, child, way, is_left, leaf_of, linked, FitsSpot, IsTree, IsSeat}
+use Rattle.kd_points.specs.Trees.{child, way, is_left, leaf_of, linked, FitsSpot, IsTree, IsSeat}
 use Rattle.kd_points.specs.TreeStates.{node_at, key_of, place, rows_of, tree_state, count_of, dead_nodes, IsSound, IsAlike, IsPlanted, has_node, NoPoint}
 use Rattle.kd_points.proofs.states.Basics.{none_some, some_is}
 use Rattle.kd_points.proofs.states.StateRows.{with_rows, Settles}

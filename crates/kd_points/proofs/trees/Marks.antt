@@ -1,11 +1,10 @@
 -- What a mark of one node leaves of a tree.
-use Rattle.std.specs.Prelude.{◌≡◌, ℕ, ℤ, suc, ◌<◌, Bool, true, false, cond, Option, Some, None, is_some, refl, ◌⊎◌}
-use Rattle.std.proofs.Common.{sym, ◌∙◌, ap, subst, inl, inr, arith}
-use Rattle.std.specs.Ordering.{int_eq}
+use Rattle.std.specs.Prelude.{◌≡◌, ℕ, ℤ, suc, ◌<◌, Bool, true, Option, Some, is_some, refl, ◌⊎◌}
+use Rattle.std.proofs.Common.{sym, ◌∙◌, ap, subst, inl, inr}
 use Rattle.gx_base.specs.declared.calls.Spot.{Spot}
 use Rattle.kd_points.specs.declared.nodes.Node.{Node}
-use Rattle.kd_points.specs.Trees.{Nodes, child, way, depth_of, FitsSpot, IsTree}
-use Rattle.kd_points.proofs.states.Basics.{same_key, same_int, int_eq-of, false_of, not_both, none_some, some_is}
+use Rattle.kd_points.specs.Trees.{Nodes, child, way, FitsSpot, IsTree}
+use Rattle.kd_points.proofs.states.Basics.{same_key, some_is}
 use Rattle.kd_points.proofs.trees.Ways.{Amends, amends_itself, Stays, stays_itself, AllStay, way_kept, depth_stays}
 
 module _ (look next : Nodes) (i : ℕ) (n : Node) (b : Bool) (there : look i ≡ Some n) (here : next i ≡ Some (record n { live = b })) (others : (j : ℕ) → (j ≡ i → ⊥) → next j ≡ look j) where

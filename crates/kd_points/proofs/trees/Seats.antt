@@ -1,6 +1,6 @@
 -- The way of a spot, as it is walked to the seat.
-use Rattle.std.specs.Prelude.{◌≡◌, ℕ, zero, suc, ◌<◌, ◌≤◌, ◌-◌, ℤ, Bool, true, false, Option, Some, None, List, is_some, slice_index_or, refl, ◌⊎◌}
-use Rattle.std.proofs.Common.{sym, ◌∙◌, ap, subst, arith, inl, inr}
+use Rattle.std.specs.Prelude.{◌≡◌, ℕ, suc, ◌<◌, ◌≤◌, ◌-◌, ℤ, Bool, true, false, Option, Some, None, List, is_some, slice_index_or, refl}
+use Rattle.std.proofs.Common.{sym, ◌∙◌, ap, arith}
 use Rattle.gx_base.specs.declared.calls.Spot.{Spot}
 use Rattle.kd_points.specs.declared.nodes.Node.{Node}
 use Rattle.kd_points.specs.Trees.{Nodes, is_left, child, child_of, way, depth_of, IsTree}
@@ -42,9 +42,9 @@ module _ (look : Nodes) (root : Option ℕ) (size : ℕ) (numbers : ℤ → Opti
   past at n w g other j m h s =
       let low : n.depth ≤ m.depth = w.deeper n j m g h s in
       let apart : n.depth ≡ m.depth → ⊥ = λ e.
-          let here : way look spot m.depth root ≡ Some j = ap (λ (r : Spot). way look r m.depth root) (sym s) ∙ t.placed j m h in
-          let same : j ≡ at = some_is j at (sym here ∙ ap (λ d. way look spot d root) (sym e) ∙ w.on_way n g) in
-          other (ap (λ (x : Node). x.spot) (some_is n m (sym g ∙ ap look (sym same) ∙ h)) ∙ s)
+      let here : way look spot m.depth root ≡ Some j = ap (λ (r : Spot). way look r m.depth root) (sym s) ∙ t.placed j m h in
+      let same : j ≡ at = some_is j at (sym here ∙ ap (λ d. way look spot d root) (sym e) ∙ w.on_way n g) in
+      other (ap (λ (x : Node). x.spot) (some_is n m (sym g ∙ ap look (sym same) ∙ h)) ∙ s)
       in omega arith
 
   pub further : (at next : ℕ) (n : Node) (left : Bool) → OnWay look root spot at → look at ≡ Some n → (n.spot ≡ spot → ⊥) → left ≡ is_left n spot → child n left ≡ Some next → OnWay look root spot next

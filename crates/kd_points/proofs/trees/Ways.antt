@@ -1,11 +1,11 @@
 -- Ways in a tree, and what is left of them where nodes are amended.
-use Rattle.std.specs.Prelude.{◌≡◌, ℕ, zero, suc, ◌≤◌, Bool, true, false, Option, Some, None, refl}
+use Rattle.std.specs.Prelude.{◌≡◌, ℕ, zero, suc, ◌≤◌, Bool, Option, Some, None, refl}
 use Rattle.std.proofs.Common.{sym, ◌∙◌, ap, subst, arith}
 use Rattle.gx_base.specs.declared.calls.Spot.{Spot}
 use Rattle.kd_points.specs.declared.nodes.Node.{Node}
 use Rattle.kd_points.specs.declared.nodes.Axis.{Axis}
 use Rattle.kd_points.specs.Trees.{Nodes, is_left, child, child_of, way, depth_of}
-use Rattle.kd_points.proofs.states.Basics.{none_some, some_is}
+use Rattle.kd_points.proofs.states.Basics.{none_some}
 
 -- a way that has ended comes nowhere
 pub ended : (look : Nodes) (r : Spot) (k j : ℕ) → way look r k None ≡ Some j → ⊥

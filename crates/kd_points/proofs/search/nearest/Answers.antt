@@ -1,12 +1,10 @@
-use Rattle.std.proofs.Common.{◌≡◌, ◌<◌, ◌++◌, ◌∷◌, [], ◌-◌, take, vec_len, List, None, Some, Option, ℕ, sym, ◌∙◌, ap, subst}
+use Rattle.std.proofs.Common.{◌≡◌, ◌++◌, [], ◌-◌, take, vec_len, List, None, Option, ℕ, sym, ◌∙◌, ap, subst}
 use Rattle.slab.specs.Slab.{slab_len}
-use Rattle.gx_base.specs.PointKind.{nearer}
-use Rattle.gx_base.specs.Spots.{far}
 use Rattle.kd_points.specs.declared.search.Pending.{Pending}
 use Rattle.kd_points.specs.TreeStates.{node_at, key_of}
-use Rattle.kd_points.specs.Searches.{IsSearched, pending_at, sides_of, to_plane}
+use Rattle.kd_points.specs.Searches.{IsSearched, pending_at}
 use Rattle.kd_points.proofs.searches.Visits.{begun, skipped_from, passed_from, visited_from}
-use Rattle.kd_points.proofs.searches.Work.{work, less_from, sides_from}
+use Rattle.kd_points.proofs.searches.Work.{less_from, sides_from}
 use Rattle.kd_points.proofs.searches.Ends.{found_nearest}
 use Rattle.kd_points.proofs.search.nearest.Goals as goal
 

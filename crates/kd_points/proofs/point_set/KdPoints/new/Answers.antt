@@ -1,4 +1,3 @@
-use Rattle.std.proofs.Common.{ap}
 use Rattle.kd_points.proofs.rebuilds.Gathering.{blank_sound, blank_state}
 use Rattle.kd_points.proofs.point_set.KdPoints.new.Goals as goal
 

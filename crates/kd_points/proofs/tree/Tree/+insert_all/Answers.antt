@@ -5,7 +5,7 @@ use Rattle.kd_points.proofs.tree.Tree.+insert_all.Goals as goal
 pub insert_all-requires-2 : goal.insert_all-requires-2
 insert_all-requires-2 t c = (
   subst (λ m. length c.select_nth_unstable_by-front.result.2.now < m) c.decreases
-  (back_less c.args.spots.now c.select_nth_unstable_by-front.result.0.now c.select_nth_unstable_by-front.result.2.now c.select_nth_unstable_by-front.result.1.now c.select_nth_unstable_by-front.ensures.permutation),
+      (back_less c.args.spots.now c.select_nth_unstable_by-front.result.0.now c.select_nth_unstable_by-front.result.2.now c.select_nth_unstable_by-front.result.1.now c.select_nth_unstable_by-front.ensures.permutation),
   c.in_ok-insert_all.ensures.sound,
 )
 

@@ -1,11 +1,9 @@
-use Rattle.std.proofs.Common.{◌≡◌, Option, None, Some, ℤ, w64, to_z, of_z, sym, ap, subst}
+use Rattle.std.proofs.Common.{◌≡◌, Option, None, Some, ℤ, w64, to_z, of_z, subst}
 use Rattle.std.proofs.lemmas.Int.{to_z-of_z}
 use Rattle.gx_base.specs.declared.calls.Spot.{Spot}
-use Rattle.gx_base.specs.PointKind.{spot_of, spot_at}
+use Rattle.gx_base.specs.PointKind.{spot_at}
 use Rattle.kd_points.specs.TreeStates.{node_at, tree_state}
 use Rattle.kd_points.proofs.states.StateRows.{owner_spot, no_spot}
-use Rattle.kd_points.proofs.trees.Holders.{holds-at}
-use Rattle.kd_points.proofs.trees.Marks.{marked_tree}
 use Rattle.kd_points.proofs.tree.Tree.at.Goals as goal
 
 pub returns-in-None : goal.returns-in-None

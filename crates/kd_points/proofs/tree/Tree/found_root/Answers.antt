@@ -1,10 +1,9 @@
-use Rattle.std.proofs.Common.{◌≡◌, ◌+◌, ◌≤◌, Some, arith, FitsSigned, w64, rules, sym, ◌∙◌, ap, subst}
-use Rattle.kd_points.specs.declared.nodes.Node.{Node}
+use Rattle.std.proofs.Common.{◌≤◌, Some, arith, rules, sym, ◌∙◌, ap, subst}
 use Rattle.kd_points.specs.declared.tree.Tree.{Tree}
-use Rattle.kd_points.specs.Trees.{leaf_of, FitsSpot}
+use Rattle.kd_points.specs.Trees.{FitsSpot}
 use Rattle.kd_points.specs.TreeStates.{place, dead_nodes, has_node, IsPlanted}
 use Rattle.kd_points.proofs.trees.Changes.{Changed}
-use Rattle.kd_points.proofs.trees.Hung.{alike_sound, Grown, no_more_dead, rooted_from}
+use Rattle.kd_points.proofs.trees.Hung.{alike_sound, no_more_dead, rooted_from}
 use Rattle.kd_points.proofs.tree.Tree.found_root.Goals as goal
 
 pub returns-in_err-key-clause-sound : goal.returns-in_err-key-clause-sound

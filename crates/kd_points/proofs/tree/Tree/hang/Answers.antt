@@ -1,11 +1,11 @@
-use Rattle.std.proofs.Common.{◌≡◌, ◌+◌, ◌≤◌, Some, arith, rules, sym, ◌∙◌, ap, subst}
+use Rattle.std.proofs.Common.{◌≤◌, Some, arith, rules, sym, ◌∙◌, ap, subst}
 use Rattle.slab.specs.Slab.{Updates}
 use Rattle.kd_points.specs.declared.nodes.Node.{Node}
 use Rattle.kd_points.specs.declared.tree.Tree.{Tree}
-use Rattle.kd_points.specs.Trees.{leaf_of, linked, FitsSpot}
+use Rattle.kd_points.specs.Trees.{FitsSpot}
 use Rattle.kd_points.specs.TreeStates.{place, dead_nodes, has_node, IsPlanted}
 use Rattle.kd_points.proofs.trees.Changes.{Changed}
-use Rattle.kd_points.proofs.trees.Hung.{alike_sound, Grown, no_more_dead, hung_from}
+use Rattle.kd_points.proofs.trees.Hung.{alike_sound, no_more_dead, hung_from}
 use Rattle.kd_points.proofs.tree.Tree.hang.Goals as goal
 
 pub returns-in_err-key-clause-sound : goal.returns-in_err-key-clause-sound

@@ -1,8 +1,7 @@
-use Rattle.std.proofs.Common.{◌≡◌, ℤ, FitsSigned, to_z, of_z, w64, rules, Result, Ok, Err, OnOk, sym, ◌∙◌, ap, subst}
+use Rattle.std.proofs.Common.{FitsSigned, w64, rules, ◌∙◌, ap}
 use Rattle.std.proofs.lemmas.Int.{to_z-of_z}
-use Rattle.std.proofs.lemmas.Result.{on_ok_weaker}
 use Rattle.gx_base.specs.PointKind.{spot_at}
-use Rattle.kd_points.specs.TreeStates.{tree_state, dead_nodes}
+use Rattle.kd_points.specs.TreeStates.{tree_state}
 use Rattle.kd_points.proofs.rebuilds.Gathering.{no_spot, gathers_one_ok}
 use Rattle.kd_points.proofs.tree.Tree.insert_new.Goals as goal
 

@@ -1,4 +1,4 @@
-use Rattle.std.proofs.Common.{ℤ, w64, to_z, of_z, sym, ◌∙◌, ap, subst}
+use Rattle.std.proofs.Common.{ℤ, w64, to_z, of_z, sym, ◌∙◌, subst}
 use Rattle.std.proofs.lemmas.Int.{to_z-of_z}
 use Rattle.kd_points.specs.TreeStates.{node_at, NoPoint}
 use Rattle.kd_points.proofs.states.StateRows.{no_key, no_node, no_point}

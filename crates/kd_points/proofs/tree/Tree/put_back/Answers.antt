@@ -1,8 +1,8 @@
-use Rattle.std.proofs.Common.{◌≡◌, ℤ, None, Some, FitsSigned, to_z, of_z, w64, rules, sym, ◌∙◌, ap, subst}
+use Rattle.std.proofs.Common.{None, Some, FitsSigned, w64, rules, ◌∙◌, ap}
 use Rattle.std.proofs.lemmas.Int.{to_z-of_z}
 use Rattle.gx_base.specs.States.{row_at, with_row}
 use Rattle.gx_base.proofs.CallerLemmas.{row_at-same}
-use Rattle.kd_points.specs.TreeStates.{place, tree_state, NoPoint}
+use Rattle.kd_points.specs.TreeStates.{place, tree_state}
 use Rattle.kd_points.proofs.states.StateRows.{with_row-twice}
 use Rattle.kd_points.proofs.tree.Tree.put_back.Goals as goal
 

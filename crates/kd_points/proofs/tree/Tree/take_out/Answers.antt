@@ -1,13 +1,10 @@
-use Rattle.std.proofs.Common.{◌≡◌, ◌-◌, ◌≤◌, ℤ, None, to_z, of_z, w64, refl, sym, ◌∙◌, ap, subst}
+use Rattle.std.proofs.Common.{◌≤◌, ℤ, to_z, of_z, w64, sym, ◌∙◌, ap, subst}
 use Rattle.std.proofs.lemmas.Int.{to_z-of_z}
-use Rattle.gx_base.specs.States.{row_at, with_row}
+use Rattle.gx_base.specs.States.{with_row}
 use Rattle.gx_base.proofs.CallerLemmas.{with_row-row_at}
-use Rattle.slab.specs.Slab.{slab_len}
 use Rattle.kd_points.specs.declared.tree.Tree.{Tree}
-use Rattle.kd_points.specs.Trees.{IsOwner}
-use Rattle.kd_points.specs.TreeStates.{node_at, key_of, tree_state, NoPoint}
-use Rattle.kd_points.proofs.trees.Growth.{grown_tree}
-use Rattle.kd_points.proofs.trees.Changes.{Changed, taken, one_there, taken_from}
+use Rattle.kd_points.specs.TreeStates.{tree_state, NoPoint}
+use Rattle.kd_points.proofs.trees.Changes.{one_there, taken_from}
 use Rattle.kd_points.proofs.tree.Tree.take_out.Goals as goal
 
 pub overflow_sub-self : goal.overflow_sub-self
