@@ -14,11 +14,13 @@ abbrev pub coordinate : Axis → Spot → ℤ
 coordinate X r = r.x
 coordinate Y r = r.y
 
--- spots are compared along an axis by the coordinate, then by the others, and then by the id
+-- spots are compared by their coordinates, and then by the id
+abbrev pub level_cmp : Spot → Spot → Ordering
+level_cmp p q = ordering_then (int_cmp p.x q.x) (ordering_then (int_cmp p.y q.y) (ordering_then (int_cmp p.z q.z) (int_cmp p.id q.id)))
+
+-- along an axis by its coordinate first
 abbrev pub spot_cmp : Axis → Spot → Spot → Ordering
-spot_cmp axis p q =
-    ordering_then (int_cmp (coordinate axis p) (coordinate axis q))
-    (ordering_then (int_cmp p.x q.x) (ordering_then (int_cmp p.y q.y) (ordering_then (int_cmp p.z q.z) (int_cmp p.id q.id))))
+spot_cmp axis p q = ordering_then (int_cmp (coordinate axis p) (coordinate axis q)) (level_cmp p q)
 
 -- the spot stands on the left side of the node
 abbrev pub is_left : Node → Spot → Bool

@@ -47,15 +47,24 @@ pub fn crossed(axis: Axis) -> Axis {
     }
 }
 
+/// The order of spots of which neither comes before the other along an axis.
+fn order_of_level(p: Spot, q: Spot) -> Ordering
+    ensures { result ≡ trees.level_cmp p q }
+{
+    p.x.cmp(&q.x)
+        .then(p.y.cmp(&q.y).then(p.z.cmp(&q.z).then(p.id.cmp(&q.id))))
+}
+
 /// The order of spots along an axis: by the coordinate, then by the others, and then by the number. So spots of
 /// equal coordinates are split too.
 pub fn order(axis: Axis, p: Spot, q: Spot) -> Ordering
     ensures { result ≡ trees.spot_cmp axis p q }
 {
-    coordinate(axis, p).cmp(&coordinate(axis, q)).then(
-        p.x.cmp(&q.x)
-            .then(p.y.cmp(&q.y).then(p.z.cmp(&q.z).then(p.id.cmp(&q.id)))),
-    )
+    match coordinate(axis, p).cmp(&coordinate(axis, q)) {
+        Ordering::Less => Ordering::Less,
+        Ordering::Equal => order_of_level(p, q),
+        Ordering::Greater => Ordering::Greater,
+    }
 }
 
 /// Whether a spot stands on the left side of a node.
