@@ -1,11 +1,10 @@
 -- What the kinds ship whose tables stand here. The tables of a kind whose type has a crate of its own may stand there.
 use Rattle.gx_base.specs.declared.kinds.Kind.{Kind}
-use Rattle.gx_base.specs.declared.kinds.Kind.TheVariants.{Flow, Points, Domains}
+use Rattle.gx_base.specs.declared.kinds.Kind.TheVariants.{Flow, Domains}
 use Rattle.gx_base.specs.declared.kinds.Choice.{Choice}
 use Rattle.gx_base.specs.ShippedTables.{KindTables, rows_chosen, false_rows}
 use Rattle.gx_base.specs.Tables.{Rows}
 use Rattle.kind_tables.specs.FlowTables.{flow_tables}
-use Rattle.kind_tables.specs.PointTables.{point_tables}
 use Rattle.kind_tables.specs.DomainTables.{domain_tables}
 
 -- each row is false
@@ -15,7 +14,6 @@ false_tables = record { precise = false_rows; simple = false_rows; reader_writer
 -- false ones for the kinds whose tables stand elsewhere
 abbrev pub tables_of : Kind → KindTables
 tables_of Flow = flow_tables
-tables_of Points = point_tables
 tables_of Domains = domain_tables
 tables_of _ = false_tables
 

@@ -5,7 +5,7 @@ ghost use Rattle.std.specs.Prelude.{◌≡◌, ◌≢◌, ℕ, true};
 ghost use Rattle.gx_base.specs.declared.kinds.Choice.{Choice};
 ghost use Rattle.gx_base.specs.declared.kinds.Choice.TheVariants.{Precise, Simple, Rw};
 ghost use Rattle.gx_base.specs.declared.kinds.Kind.{Kind};
-ghost use Rattle.gx_base.specs.declared.kinds.Kind.TheVariants.{Flow, Points, Domains};
+ghost use Rattle.gx_base.specs.declared.kinds.Kind.TheVariants.{Flow, Domains};
 ghost use Rattle.gx_base.specs.Kinds.{kind_number};
 ghost use Rattle.gx_base.specs.ShippedTables.{IsShipped};
 ghost use Rattle.gx_base.specs.TableRows.{RowMap, row_of};
@@ -20,11 +20,6 @@ ghost use Rattle.kind_tables.specs.Classes.{HasNoGeneralRow};
 /// The tables that flow shards ship are valid.
 pub fn flows_are_valid()
     ensures { (choice : Choice) → IsValid (kind_number Flow) (shipped_rows Flow choice) }
-{}
-
-/// The tables that points ship are valid.
-pub fn points_are_valid()
-    ensures { (choice : Choice) → IsValid (kind_number Points) (shipped_rows Points choice) }
 {}
 
 /// The tables that domain books ship are valid.

@@ -7,14 +7,13 @@ use Rattle.gx_base.specs.ShippedTables.{SuitKind}
 use Rattle.kind_tables.specs.TablesOfKinds.{tables_of}
 use Rattle.kind_tables.proofs.kinds.TableFacts.{TableFacts, IsSilent, tables-SuitKind, false_facts}
 use Rattle.kind_tables.proofs.kinds.FlowLaws.{flow_facts, flow_tables-silent}
-use Rattle.kind_tables.proofs.kinds.PointLaws.{point_facts, point_tables-silent}
 use Rattle.kind_tables.proofs.kinds.DomainLaws.{domain_facts}
 
 pub facts_of : (kind : Kind) → TableFacts (kind_number kind) (tables_of kind)
 facts_of Set = false_facts 0
 facts_of Cells = false_facts 1
 facts_of Flow = flow_facts
-facts_of Points = point_facts
+facts_of Points = false_facts 3
 facts_of Domains = domain_facts
 
 pub tables_of-SuitKind : (kind : Kind) → SuitKind (kind_number kind) (tables_of kind)
@@ -25,5 +24,5 @@ pub precise-silent : (kind : Kind) → kind ≢ Domains → IsSilent (tables_of 
 precise-silent Set n first second = refl
 precise-silent Cells n first second = refl
 precise-silent Flow n first second = flow_tables-silent first second
-precise-silent Points n first second = point_tables-silent first second
+precise-silent Points n first second = refl
 precise-silent Domains n first second = absurd (n refl)

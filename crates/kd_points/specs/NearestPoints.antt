@@ -11,7 +11,7 @@ use Rattle.std.specs.Int.{int_min, int_max}
 use Rattle.gx_base.specs.declared.calls.Spot.{Spot}
 use Rattle.gx_base.specs.States.{State, row_cmp, row_at, with_row}
 use Rattle.gx_base.proofs.CallerLemmas.{both_equal, same_row, same_row-is, same_row-sort, row_at-with}
-use Rattle.kind_tables.proofs.swapping.Effects.{same_int, either, both, not_true, false_of}
+use Rattle.kind_tables.proofs.CallerLemmas.{same_int, either, both, not_true, false_of}
 use Rattle.gx_base.specs.Spots.{Key, pk, key_cmp, beyond, distance}
 use Rattle.gx_base.specs.PointKind.{spot_of, spot_at, nearer, other_at, nearest_of, nearest}
 
@@ -181,7 +181,7 @@ spot_if : (b : Bool) (y : ℤ) (row old : Option (List ℤ)) → spot_of y (cond
 spot_if true y row old = refl
 spot_if false y row old = refl
 
-spot_at-with : (s : State) (x : ℤ) (row : Option (List ℤ)) (y : ℤ) → spot_at (with_row s (0, x) row) y ≡ cond (int_eq y x) (spot_of y row) (spot_at s y)
+pub spot_at-with : (s : State) (x : ℤ) (row : Option (List ℤ)) (y : ℤ) → spot_at (with_row s (0, x) row) y ≡ cond (int_eq y x) (spot_of y row) (spot_at s y)
 spot_at-with s x row y = ap (spot_of y) (row_at-with s (0, x) row (0, y)) ∙ spot_if (same_row (0, y) (0, x)) y row (row_at s (0, y)) ∙ ap (λ b. cond b (spot_of y row) (spot_at s y)) (same_row-sort 0 y x)
 
 spot_at-apart : (s : State) (x : ℤ) (row : Option (List ℤ)) (y : ℤ) → int_eq y x ≡ false → spot_at (with_row s (0, x) row) y ≡ spot_at s y

@@ -1,4 +1,5 @@
--- The tables of points: the precise one is valid, and the others are as they should be.
+-- The tables of points: the precise one is valid, and the others are as they should be. These laws stand here since points
+-- say of what they ship that it suits them, and that takes nothing from this crate's proofs.
 use Rattle.std.specs.Prelude.{◌≡◌, ℤ, pos, Bool, true, false, not, cond, ◌&&◌, ◌||◌, if◌then◌else◌, Option, Some, None, List, refl, ◌⊎◌}
 use Rattle.std.proofs.Common.{sym, ◌∙◌, ap, inl, inr}
 use Rattle.std.specs.Ordering.{int_eq}
@@ -11,15 +12,11 @@ use Rattle.gx_base.proofs.CallerLemmas.{row_at-same, written_back, same_content-
 use Rattle.gx_base.specs.Spots.{beyond, spot_of_call, spot_of_reply}
 use Rattle.gx_base.specs.RowActions.{RowAction, Turn, Look, action_next, action_reply, turns}
 use Rattle.gx_base.specs.PointKind.{PointDeed, Add, Remove, At, Nearest, Nothing, point_deed, point_action, may_add, point_meaning, place_of, nearest, nearest_reply, spot_of, HoldsPlaces}
-use Rattle.kind_tables.proofs.kinds.NearestPoints.{Avoids, Behind, beyond-back, nearest-own, nearest-with, nearest-without}
-use Rattle.kind_tables.proofs.swapping.Effects.{SwapsBy, effect_in, first_still, second_still, both_still, same_int, either, both, not_true, int_eq-comm}
-use Rattle.gx_base.specs.declared.conditions.Side.TheVariants.{Second}
-use Rattle.gx_base.specs.Below.{names_state, IsBelow}
+use Rattle.kd_points.specs.NearestPoints.{Avoids, Behind, beyond-back, nearest-own, nearest-with, nearest-without}
+use Rattle.kind_tables.proofs.CallerLemmas.{SwapsBy, effect_in, first_still, second_still, both_still, same_int, either, both, not_true, int_eq-comm, IsNear, Pair, two_turns, turn_first, turn_second, turn_still, pair_swaps, action_effect, TableLaws, valid_from, TableFacts, NoneIsFalse, keeps}
+use Rattle.gx_base.specs.Below.{IsBelow}
 use Rattle.cond_lattice.specs.Simple.{strengthened}
-use Rattle.kind_tables.specs.PointTables.{no_point, precise_point, simple_point, reader_writer_point, point_tables}
-use Rattle.kind_tables.proofs.swapping.ActSwaps.{IsNear, Pair, two_turns, turn_first, turn_second, turn_still, pair_swaps, action_effect}
-use Rattle.kind_tables.proofs.swapping.Validity.{TableLaws, valid_from}
-use Rattle.kind_tables.proofs.kinds.TableFacts.{TableFacts, NoneIsFalse, keeps, IsSilent}
+use Rattle.kd_points.specs.PointTables.{no_point, precise_point, simple_point, reader_writer_point, point_tables}
 
 -- the words of a row about `nearest`, as facts
 avoids_of : (o : Option Spot) (x : ℤ) → not (int_eq (nearest_reply o).p x) ≡ true → Avoids o x
@@ -258,14 +255,6 @@ readers_below_point Nearest Nearest = IsBelow-itself _
 readers_below_point Nearest Nothing = False-IsBelow _
 readers_below_point Nothing e = False-IsBelow _
 
-point_silent : (d e : PointDeed) → names_state Second (precise_point d e) ≡ false
-point_silent Add Add = refl
-point_silent Remove Add = refl
-point_silent At Add = refl
-point_silent Nearest Add = refl
-point_silent Nothing e = refl
-point_silent d e = refl
-
 pub point_facts : TableFacts 3 point_tables
 point_facts = record {
   valid = valid_from 3 point_tables.precise point_table;
@@ -274,6 +263,3 @@ point_facts = record {
   readers_below = λ first second. readers_below_point (point_deed first) (point_deed second);
   readers_keep_to_kind = keeps 3 Nothing point_deed point_deed-foreign reader_writer_point reader_writer_none;
 }
-
-pub point_tables-silent : IsSilent point_tables.precise
-point_tables-silent first second = point_silent (point_deed first) (point_deed second)

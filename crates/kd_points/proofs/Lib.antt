@@ -1,0 +1,6 @@
+pub mod states
+pub mod trees
+pub mod searches
+pub mod rebuilds
+pub mod tables
+pub mod calls

@@ -1,0 +1,11 @@
+use Rattle.slab.specs.Slab.{slab_len}
+use Rattle.kd_points.specs.TreeStates.{node_at}
+use Rattle.kd_points.specs.Searches.{IsSearched}
+use Rattle.kd_points.proofs.searches.Work.{work}
+use Rattle.kd_points.proofs.search.nearest.Given as goal
+
+abbrev pub invariant-search : goal.invariant-search
+invariant-search l = IsSearched (node_at l.tree) l.q l.best l.waiting.items
+
+abbrev pub decreases-search : goal.decreases-search
+decreases-search l = work (node_at l.tree) (slab_len l.tree.nodes) l.waiting.items

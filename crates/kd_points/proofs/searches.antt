@@ -1,0 +1,4 @@
+pub mod Pruning
+pub mod Visits
+pub mod Work
+pub mod Ends

@@ -1,0 +1,209 @@
+-- What a search knows after each step.
+use Rattle.std.specs.Prelude.{◌≡◌, ℕ, zero, suc, ◌<◌, ◌≤◌, ℤ, Bool, true, false, not, ◌&&◌, if◌then◌else◌, Option, Some, None, List, [], ◌∷◌, ◌++◌, IfSome, IsSome, refl, ◌⊎◌}
+use Rattle.std.proofs.Common.{sym, ◌∙◌, ap, subst, arith, inl, inr}
+use Rattle.std.specs.Ordering.{int_eq}
+use Rattle.gx_base.specs.declared.calls.Spot.{Spot}
+use Rattle.gx_base.specs.Spots.{beyond, distance, far}
+use Rattle.gx_base.specs.PointKind.{nearer}
+use Rattle.kind_tables.proofs.CallerLemmas.{both, not_true}
+use Rattle.kd_points.specs.declared.nodes.Node.{Node}
+use Rattle.kd_points.specs.declared.search.Pending.{Pending}
+use Rattle.kd_points.specs.NearestPoints.{beyond-upto, beyond-back, beyond-itself}
+use Rattle.kd_points.specs.Trees.{Nodes, is_left, child, child_of, way, IsNodeOf, IsLive, IsTree}
+use Rattle.kd_points.specs.Searches.{Leads, Within, IsLiveOther, other_of, to_plane, IsAwaited, IsAwaitedIn, IsSearched, pending_at, sides_of}
+use Rattle.kd_points.proofs.states.Basics.{none_some, some_is}
+use Rattle.kd_points.proofs.searches.Pruning.{plane_before, by_distance}
+
+-- the nearer of two points
+kept_if : (q c m r : Spot) (b : Bool) → beyond q c m ≡ b → beyond q m r ≡ false → Within q (Some (if b then m else c)) r
+kept_if q c m r true e h = h
+kept_if q c m r false e h = beyond-upto q c m r e h
+
+nearer_kept : (q : Spot) (o best : Option Spot) (r : Spot) → Within q best r → Within q (nearer q o best) r
+nearer_kept q None best r h = h
+nearer_kept q (Some c) None r h = absurd h
+nearer_kept q (Some c) (Some m) r h = kept_if q c m r (beyond q c m) refl h
+
+new_if : (q c m : Spot) (b : Bool) → beyond q c m ≡ b → Within q (Some (if b then m else c)) c
+new_if q c m true e = beyond-back q c m e
+new_if q c m false e = beyond-itself q c
+
+nearer_new : (q c : Spot) (best : Option Spot) → Within q (nearer q (Some c) best) c
+nearer_new q c None = beyond-itself q c
+nearer_new q c (Some m) = new_if q c m (beyond q c m) refl
+
+source_if : (c m n : Spot) (b : Bool) → Some (if b then m else c) ≡ Some n → (Some m ≡ Some n) ⊎ (Some c ≡ Some n)
+source_if c m n true e = inl e
+source_if c m n false e = inr e
+
+nearer_source : (q : Spot) (o best : Option Spot) (n : Spot) → nearer q o best ≡ Some n → (best ≡ Some n) ⊎ (o ≡ Some n)
+nearer_source q None best n e = inl e
+nearer_source q (Some c) None n e = inr e
+nearer_source q (Some c) (Some m) n e = source_if c m n (beyond q c m) e
+
+if_some : (b : Bool) (x r : Spot) → (if b then Some x else None) ≡ Some r → (b ≡ true) × (x ≡ r)
+if_some true x r e = (refl, some_is x r e)
+if_some false x r e = absurd (none_some r e)
+
+other_is : (look : Nodes) (q : Spot) (i : ℕ) (n : Node) (m : Spot) → look i ≡ Some n → other_of q n ≡ Some m → IsLiveOther look q m
+other_is look q i n m g e =
+    let p : ((n.live && not (int_eq n.spot.id q.id)) ≡ true) × (n.spot ≡ m) = if_some _ n.spot m e in
+    let l : (n.live ≡ true) × (not (int_eq n.spot.id q.id) ≡ true) = both _ _ p.0 in
+    ((i, subst (λ o. IsNodeOf o m) (sym g) (l.0, p.1)), ap (λ (s : Spot). int_eq s.id q.id) (sym p.1) ∙ not_true _ l.1)
+
+is_other : (q : Spot) (n : Node) (r : Spot) → n.live ≡ true → n.spot ≡ r → int_eq r.id q.id ≡ false → other_of q n ≡ Some r
+is_other q n r l s d =
+    ap (λ b. if b && not (int_eq n.spot.id q.id) then Some n.spot else None) l
+    ∙ ap (λ b. if not b then Some n.spot else None) (ap (λ (t : Spot). int_eq t.id q.id) s ∙ d) ∙ ap Some s
+
+-- the point stands under a node as its point, or under the child on its side
+abbrev pub Under : Nodes → Option ℕ → Spot → Type 0
+Under look from r = (k : ℕ) × Leads look r k from
+
+here_or_under : (look : Nodes) (i : ℕ) (n : Node) (r : Spot) → look i ≡ Some n → Under look (Some i) r → (IsNodeOf (Some n) r) ⊎ (Under look (child n (is_left n r)) r)
+here_or_under look i n r g (zero, l) = inl (subst (λ o. IsNodeOf o r) g l)
+here_or_under look i n r g (suc k, l) = inr (k, subst (λ o. Leads look r k (child_of o r)) g l)
+
+nowhere : (look : Nodes) (r : Spot) (k : ℕ) → Leads look r k None → ⊥
+nowhere look r zero l = l
+nowhere look r (suc k) l = l
+
+absent : (look : Nodes) (i : ℕ) (r : Spot) → look i ≡ None → Under look (Some i) r → ⊥
+absent look i r g (zero, l) = subst (λ o. IsNodeOf o r) g l
+absent look i r g (suc k, l) = nowhere look r k (subst (λ o. Leads look r k (child_of o r)) g l)
+
+same_or_not : (a b : Bool) → (a ≡ b) ⊎ (a ≡ not b)
+same_or_not true true = inl refl
+same_or_not true false = inr refl
+same_or_not false true = inr refl
+same_or_not false false = inl refl
+
+-- what waits in two lists
+module _ (look : Nodes) (q : Spot) where
+  pub split : (front back : List Pending) (r : Spot) → IsAwaitedIn look q (front ++ back) r → IsAwaitedIn look q front r ⊎ IsAwaitedIn look q back r
+  split [] back r h = inr h
+  split (next ∷ front) back r (inl h) = inl (inl h)
+  split (next ∷ front) back r (inr h) = further (split front back r h)
+    where
+      further : IsAwaitedIn look q front r ⊎ IsAwaitedIn look q back r → IsAwaitedIn look q (next ∷ front) r ⊎ IsAwaitedIn look q back r
+      further (inl h) = inl (inr h)
+      further (inr h) = inr h
+
+  in_front : (front back : List Pending) (r : Spot) → IsAwaitedIn look q front r → IsAwaitedIn look q (front ++ back) r
+  in_front [] back r h = absurd h
+  in_front (next ∷ front) back r (inl h) = inl h
+  in_front (next ∷ front) back r (inr h) = inr (in_front front back r h)
+
+  in_back : (front back : List Pending) (r : Spot) → IsAwaitedIn look q back r → IsAwaitedIn look q (front ++ back) r
+  in_back [] back r h = h
+  in_back (next ∷ front) back r h = inr (in_back front back r h)
+
+  awaited_at : (side : Option ℕ) (reach : ℕ) (r : Spot) → Under look side r → reach ≤ distance q r → IsAwaitedIn look q (pending_at side reach) r
+  awaited_at None reach r u h = absurd (nowhere look r u.0 u.1)
+  awaited_at (Some c) reach r u h = inl (u, h)
+
+  last : (rest : List Pending) (next : Pending) (r : Spot) → IsAwaitedIn look q (rest ++ next ∷ []) r → IsAwaitedIn look q rest r ⊎ IsAwaited look q next r
+  last rest next r h = at_last (split rest (next ∷ []) r h)
+    where
+      at_last : IsAwaitedIn look q rest r ⊎ IsAwaitedIn look q (next ∷ []) r → IsAwaitedIn look q rest r ⊎ IsAwaited look q next r
+      at_last (inl h) = inl h
+      at_last (inr (inl h)) = inr h
+      at_last (inr (inr h)) = absurd h
+
+  -- a part whose points are all farther than the best is left out
+  pub skipped : (best : Option Spot) (rest : List Pending) (next : Pending) (n : Spot) → best ≡ Some n → distance q n < next.reach → IsSearched look q best (rest ++ next ∷ []) → IsSearched look q best rest
+  skipped best rest next n e h s = record { covered = λ r l. by_cover r (s.covered r l); source = s.source }
+    where
+      by_last : (r : Spot) → IsAwaitedIn look q rest r ⊎ IsAwaited look q next r → Within q best r ⊎ IsAwaitedIn look q rest r
+      by_last r (inl a) = inr a
+      by_last r (inr a) = let reached : next.reach ≤ distance q r = a.1 in inl (subst (λ o. Within q o r) (sym e) (by_distance q n r (omega arith)))
+
+      by_cover : (r : Spot) → Within q best r ⊎ IsAwaitedIn look q (rest ++ next ∷ []) r → Within q best r ⊎ IsAwaitedIn look q rest r
+      by_cover r (inl w) = inl w
+      by_cover r (inr a) = by_last r (last rest next r a)
+
+  -- where no node is there is nothing to visit
+  pub passed : (best : Option Spot) (rest : List Pending) (next : Pending) → look next.from ≡ None → IsSearched look q best (rest ++ next ∷ []) → IsSearched look q best rest
+  passed best rest next g s = record { covered = λ r l. by_cover r (s.covered r l); source = s.source }
+    where
+      by_last : (r : Spot) → IsAwaitedIn look q rest r ⊎ IsAwaited look q next r → Within q best r ⊎ IsAwaitedIn look q rest r
+      by_last r (inl a) = inr a
+      by_last r (inr a) = absurd (absent look next.from r g a.0)
+
+      by_cover : (r : Spot) → Within q best r ⊎ IsAwaitedIn look q (rest ++ next ∷ []) r → Within q best r ⊎ IsAwaitedIn look q rest r
+      by_cover r (inl w) = inl w
+      by_cover r (inr a) = by_last r (last rest next r a)
+
+  -- a node is visited, and both its sides wait
+  module _ (best : Option Spot) (rest : List Pending) (next : Pending) (n : Node) (g : look next.from ≡ Some n) (fits : to_plane q n ≤ far) where
+    abbrev best_now : Option Spot
+    best_now = nearer q (other_of q n) best
+
+    on_side : (r : Spot) → next.reach ≤ distance q r → Under look (child n (is_left n r)) r → IsAwaitedIn look q (rest ++ sides_of q n next.reach) r
+    on_side r h u = by_side (same_or_not (is_left n r) (is_left n q))
+      where
+        by_side : (is_left n r ≡ is_left n q) ⊎ (is_left n r ≡ not (is_left n q)) → IsAwaitedIn look q (rest ++ sides_of q n next.reach) r
+        by_side (inl e) =
+            in_back rest (sides_of q n next.reach) r (in_back (pending_at (child n (not (is_left n q))) (to_plane q n)) (pending_at (child n (is_left n q)) next.reach) r
+            (awaited_at (child n (is_left n q)) next.reach r (subst (λ b. Under look (child n b) r) e u) h))
+        by_side (inr e) =
+            in_back rest (sides_of q n next.reach) r (in_front (pending_at (child n (not (is_left n q))) (to_plane q n)) (pending_at (child n (is_left n q)) next.reach) r
+            (awaited_at (child n (not (is_left n q))) (to_plane q n) r (subst (λ b. Under look (child n b) r) e u) (plane_before n q r e fits)))
+
+    at_node : (r : Spot) → int_eq r.id q.id ≡ false → next.reach ≤ distance q r → (IsNodeOf (Some n) r) ⊎ (Under look (child n (is_left n r)) r)
+        → Within q best_now r ⊎ IsAwaitedIn look q (rest ++ sides_of q n next.reach) r
+    at_node r d h (inl i) = inl (subst (λ o. Within q (nearer q o best) r) (sym (is_other q n r i.0 i.1 d)) (nearer_new q r best))
+    at_node r d h (inr u) = inr (on_side r h u)
+
+    by_last : (r : Spot) → int_eq r.id q.id ≡ false → IsAwaitedIn look q rest r ⊎ IsAwaited look q next r → Within q best_now r ⊎ IsAwaitedIn look q (rest ++ sides_of q n next.reach) r
+    by_last r d (inl a) = inr (in_front rest (sides_of q n next.reach) r a)
+    by_last r d (inr a) = at_node r d a.1 (here_or_under look next.from n r g a.0)
+
+    by_cover : (r : Spot) → int_eq r.id q.id ≡ false → Within q best r ⊎ IsAwaitedIn look q (rest ++ next ∷ []) r → Within q best_now r ⊎ IsAwaitedIn look q (rest ++ sides_of q n next.reach) r
+    by_cover r d (inl w) = inl (nearer_kept q (other_of q n) best r w)
+    by_cover r d (inr a) = by_last r d (last rest next r a)
+
+    by_source : ((m : Spot) → best ≡ Some m → IsLiveOther look q m) → (m : Spot) → (best ≡ Some m) ⊎ (other_of q n ≡ Some m) → IsLiveOther look q m
+    by_source s m (inl e) = s m e
+    by_source s m (inr e) = other_is look q next.from n m g e
+
+    pub visited : IsSearched look q best (rest ++ next ∷ []) → IsSearched look q best_now (rest ++ sides_of q n next.reach)
+    visited s = record {
+      covered = λ r l. by_cover r l.1 (s.covered r l);
+      source = λ m e. by_source s.source m (nearer_source q (other_of q n) best m e);
+    }
+
+-- each live node is under the root
+way_leads : (look : Nodes) (r : Spot) (k : ℕ) (from : Option ℕ) (j : ℕ) → way look r k from ≡ Some j → IsNodeOf (look j) r → Leads look r k from
+way_leads look r zero from j e h = subst (Leads look r zero) (sym e) h
+way_leads look r (suc k) None j e h = absurd (none_some j e)
+way_leads look r (suc k) (Some i) j e h = way_leads look r k (child_of (look i) r) j e h
+
+node_of : (o : Option Node) (r : Spot) → IsNodeOf o r → (n : Node) × (o ≡ Some n) × (n.spot ≡ r)
+node_of None r h = absurd h
+node_of (Some n) r h = (n, refl, h.1)
+
+pub begun : (look : Nodes) (root : Option ℕ) (size : ℕ) (numbers : ℤ → Option ℕ) (q : Spot) → IsTree look root size numbers → IsSearched look q None (pending_at root 0)
+begun look root size numbers q t = record { covered = λ r l. inr (at_root r l.0); source = λ m e. absurd (none_some m e) }
+  where
+    at_root : (r : Spot) → IsLive look r → IsAwaitedIn look q (pending_at root 0) r
+    at_root r l =
+        let n : (n : Node) × (look l.0 ≡ Some n) × (n.spot ≡ r) = node_of (look l.0) r l.1 in
+        awaited_at look q root 0 r (n.0.depth, way_leads look r n.0.depth root l.0 (ap (λ (s : Spot). way look s n.0.depth root) (sym n.2) ∙ t.placed l.0 n.0 n.1) l.1) (omega arith)
+
+-- the same, from what the code computes
+module _ (look : Nodes) (q : Spot) (best : Option Spot) (waiting rest : List Pending) (next : Pending) (e : waiting ≡ rest ++ next ∷ []) where
+  pub skipped_from : IfSome best (λ n. distance q n < next.reach) × IsSome best → IsSearched look q best waiting → IsSearched look q best rest
+  skipped_from p s = by_best best refl p (subst (IsSearched look q best) e s)
+    where
+      by_best : (o : Option Spot) → best ≡ o → IfSome o (λ n. distance q n < next.reach) × IsSome o → IsSearched look q best (rest ++ next ∷ []) → IsSearched look q best rest
+      by_best None g p s = absurd (let e : false ≡ true = p.1 in cc)
+      by_best (Some n) g p s = skipped look q best rest next n g p.0 s
+
+  pub passed_from : (node : Option Node) → node ≡ look next.from → node ≡ None → IsSearched look q best waiting → IsSearched look q best rest
+  passed_from held f g s = passed look q best rest next (sym f ∙ g) (subst (IsSearched look q best) e s)
+
+  pub visited_from : (node : Option Node) (n : Node) (better : Option Spot) (after : List Pending) → node ≡ look next.from → node ≡ Some n → to_plane q n ≤ far → better ≡ nearer q (other_of q n) best → after ≡ rest ++ sides_of q n next.reach
+      → IsSearched look q best waiting → IsSearched look q better after
+  visited_from held n better after f g h b a s =
+      subst (IsSearched look q better) (sym a) (subst (λ o. IsSearched look q o (rest ++ sides_of q n next.reach)) (sym b) (visited look q best rest next n (sym f ∙ g) h (subst (IsSearched look q best) e s)))

@@ -1,0 +1,112 @@
+-- A new point, as the code puts it in.
+use Rattle.std.specs.Prelude.{◌≡◌, ℕ, ℤ, ◌+◌, ◌≤◌, Bool, true, false, cond, Option, Some, None, List, is_some, count_by, slice_index_or, refl}
+use Rattle.std.proofs.Common.{sym, ◌∙◌, ap, subst, arith}
+use Rattle.std.specs.Map.{lookup}
+use Rattle.std.specs.Ordering.{int_eq}
+use Rattle.gx_base.specs.declared.calls.Spot.{Spot}
+use Rattle.gx_base.specs.States.{with_row}
+use Rattle.slab.specs.Slab.{slab_len, Updates}
+use Rattle.kd_points.specs.declared.nodes.Axis.{Axis}
+use Rattle.kd_points.specs.declared.nodes.Node.{Node}
+use Rattle.kd_points.specs.declared.nodes.Seat.TheVariants.{Free}
+use Rattle.kd_points.specs.declared.tree.Tree.{Tree}
+use Rattle.kd_points.specs.Trees.{child, way, is_left, leaf_of, linked, FitsSpot, IsTree, IsSeat}
+use Rattle.kd_points.specs.TreeStates.{node_at, key_of, place, rows_of, tree_state, count_of, dead_nodes, IsSound, IsAlike, IsPlanted, has_node, NoPoint}
+use Rattle.kd_points.proofs.states.Basics.{none_some, some_is}
+use Rattle.kd_points.proofs.states.StateRows.{with_rows, Settles}
+use Rattle.kd_points.proofs.states.Counts.{count-more}
+use Rattle.kd_points.proofs.trees.Ways.{AllStay}
+use Rattle.kd_points.proofs.trees.Holders.{holds-at}
+use Rattle.kd_points.proofs.trees.Changes.{Changed, settled_state, nodes_kept, others_live}
+use Rattle.kd_points.proofs.trees.Growth.{grown_stays, grown_tree, grown_rows, first_stays, first_tree, first_rows}
+
+-- where nothing but the room has changed
+pub alike_state : (old new : Tree) → IsAlike old new → tree_state new ≡ tree_state old
+alike_state old new a = λ i. with_rows (rows_of (λ key. slice_index_or (a.slots i) key None) (a.entries i))
+
+pub alike_sound : (old new : Tree) → IsAlike old new → IsSound old → IsSound new
+alike_sound old new a s = record {
+  placed = subst (λ (p : List (Option Node) × List (ℤ × ℕ) × Option ℕ). IsTree (λ key. slice_index_or p.0 key None) p.2 (count_by is_some p.0) (λ id. lookup (int_eq id) p.1))
+      (λ i. (sym a.slots i, sym a.entries i, sym a.root i)) s.placed;
+  counted = a.live ∙ s.counted ∙ sym (ap count_of (alike_state old new a));
+}
+
+bare_leaf : (axis : Axis) (spot : Spot) (depth : ℕ) (side : Bool) → child (leaf_of axis spot depth) side ≡ None
+bare_leaf axis spot depth true = refl
+bare_leaf axis spot depth false = refl
+
+-- what a new point makes of a tree
+pub record Grown (old new : Tree) (spot : Spot) : Type 0 where
+  pub counted : count_of (tree_state new) ≡ new.live + 1
+  pub changed : Changed old (record new { live = new.live + 1 }) spot.id (Some (place spot))
+  pub held : has_node new spot ≡ true
+  pub size : slab_len new.nodes ≡ slab_len old.nodes + 1
+  pub live : new.live ≡ old.live
+
+grown_by : (old new : Tree) (spot : Spot) (key : ℕ) (leaf : Node) → IsSound old → NoPoint old spot.id → IsTree (node_at new) new.root (slab_len new.nodes) (key_of new)
+    → Settles (node_at old) (node_at new) (key_of old) (key_of new) spot.id (Some (place spot)) → AllStay (node_at old) (node_at new) → new.live ≡ old.live → node_at new key ≡ Some leaf → leaf.spot ≡ spot → slab_len new.nodes ≡ slab_len old.nodes + 1 → Grown old new spot
+grown_by old new spot key leaf s free t rows stays live here same size =
+    let state : tree_state new ≡ with_row (tree_state old) (0, spot.id) (Some (place spot)) = settled_state old new spot.id (Some (place spot)) rows in
+    let more : count_of (tree_state new) ≡ new.live + 1 = ap count_of state ∙ count-more (tree_state old) (0, spot.id) (place spot) free ∙ ap (λ c. c + 1) (sym s.counted) ∙ ap (λ c. c + 1) (sym live) in
+    record {
+      counted = more;
+      changed = record { sound = record { placed = t; counted = sym more }; state = state; kept = nodes_kept old new stays };
+      held = holds-at new.nodes.slots key leaf spot here same;
+      size = size;
+      live = live;
+    }
+
+-- behind a node
+module _ (old mid new : Tree) (spot : Spot) (axis : Axis) (key at : ℕ) (n : Node) (left : Bool) (s : IsSound old) (free : NoPoint old spot.id) (stood : node_at old at ≡ Some n)
+    (seat : IsSeat (node_at old) old.root spot (Free at left)) (p : IsPlanted old mid key (leaf_of axis spot (n.depth + 1))) (u : Updates mid.nodes new.nodes at (Some (linked n left key)))
+    (size : slab_len new.nodes ≡ slab_len mid.nodes) (rest : new ≡ record mid { nodes = new.nodes }) (fits : FitsSpot spot) where
+  abbrev leaf : Node
+  leaf = leaf_of axis spot (n.depth + 1)
+
+  same : seat.0 ≡ n
+  same = some_is seat.0 n (sym seat.1 ∙ stood)
+
+  open_side : child n left ≡ None
+  open_side = ap (λ (x : Node). child x left) (sym same) ∙ seat.2
+
+  apart : key ≡ at → ⊥
+  apart e = none_some n (sym p.vacant ∙ ap (node_at old) e ∙ stood)
+
+  here : node_at new key ≡ Some leaf
+  here = u.others key apart ∙ p.nodes.changed
+
+  others : (j : ℕ) → (j ≡ key → ⊥) → (j ≡ at → ⊥) → node_at new j ≡ node_at old j
+  others j d f = u.others j f ∙ p.nodes.others j d
+
+  numbers : (x : ℤ) → key_of new x ≡ cond (int_eq spot.id x) (Some key) (key_of old x)
+  numbers x = ap (λ (t : Tree). key_of t x) rest ∙ p.keys x
+
+  root : new.root ≡ old.root
+  root = ap (λ (t : Tree). t.root) rest ∙ p.root
+
+  pub hung_from : Grown old new spot
+  hung_from = grown_by old new spot key leaf s free
+      (subst (λ r. IsTree (node_at new) r (slab_len new.nodes) (key_of new)) (sym root) (subst (λ z. IsTree (node_at new) old.root z (key_of new)) (sym (size ∙ p.size))
+      (grown_tree (node_at old) (node_at new) key at n leaf left p.vacant stood open_side here u.changed others old.root (slab_len old.nodes) (key_of old) (key_of new) s.placed
+      (subst (λ (x : Node). way (node_at old) spot x.depth old.root ≡ Some at) same seat.4) (ap (λ (x : Node). is_left x spot) (sym same) ∙ seat.3) (bare_leaf axis spot (n.depth + 1)) (omega arith) fits numbers
+      (others_live old spot.id s free))))
+      (grown_rows (node_at old) (node_at new) key at n leaf left p.vacant stood open_side here u.changed others old.root (slab_len old.nodes) (key_of old) (key_of new) s.placed
+      (subst (λ (x : Node). way (node_at old) spot x.depth old.root ≡ Some at) same seat.4) (ap (λ (x : Node). is_left x spot) (sym same) ∙ seat.3) (bare_leaf axis spot (n.depth + 1)) (omega arith) fits numbers
+      (others_live old spot.id s free) refl)
+      (grown_stays (node_at old) (node_at new) key at n leaf left p.vacant stood open_side here u.changed others)
+      (ap (λ (t : Tree). t.live) rest ∙ p.live) here refl (size ∙ p.size)
+
+-- as the root
+pub rooted_from : (old mid : Tree) (spot : Spot) (axis : Axis) (key : ℕ) → IsSound old → NoPoint old spot.id → old.root ≡ None → IsPlanted old mid key (leaf_of axis spot 0) → FitsSpot spot → Grown old (record mid { root = Some key }) spot
+rooted_from old mid spot axis key s free none p fits =
+    let t : IsTree (node_at old) None (slab_len old.nodes) (key_of old) = subst (λ r. IsTree (node_at old) r (slab_len old.nodes) (key_of old)) none s.placed in
+    grown_by old (record mid { root = Some key }) spot key (leaf_of axis spot 0) s free
+    (subst (λ z. IsTree (node_at mid) (Some key) z (key_of mid)) (sym p.size)
+    (first_tree (node_at old) (node_at mid) key (leaf_of axis spot 0) p.vacant p.nodes.changed p.nodes.others (slab_len old.nodes) (key_of old) (key_of mid) t (bare_leaf axis spot 0) refl fits p.keys))
+    (first_rows (node_at old) (node_at mid) key (leaf_of axis spot 0) p.vacant p.nodes.changed p.nodes.others (slab_len old.nodes) (key_of old) (key_of mid) t (bare_leaf axis spot 0) refl fits p.keys refl)
+    (first_stays (node_at old) (node_at mid) key (leaf_of axis spot 0) p.vacant p.nodes.changed p.nodes.others (slab_len old.nodes) (key_of old) (key_of mid) t (bare_leaf axis spot 0) refl fits p.keys)
+    p.live p.nodes.changed refl p.size
+
+-- a new node is live, and one that was dead may have become so
+pub no_more_dead : (old new : Tree) → slab_len new.nodes ≤ slab_len old.nodes + 1 → new.live ≡ old.live → dead_nodes (record new { live = new.live + 1 }) ≤ dead_nodes old
+no_more_dead old new size live = omega arith

@@ -1,0 +1,67 @@
+-- What points stand for.
+use Rattle.std.specs.Prelude.{◌≡◌, ℕ, pos, Bool, true, false, IsTrue, if◌then◌else◌, refl}
+use Rattle.std.proofs.Common.{sym, subst}
+use Rattle.std.specs.Ordering.{int_eq}
+use Rattle.gx_base.specs.declared.calls.Call.{Call}
+use Rattle.gx_base.specs.declared.calls.Made.{Made}
+use Rattle.gx_base.specs.declared.calls.Reply.{Reply}
+use Rattle.gx_base.specs.declared.kinds.Kind.{Kind}
+use Rattle.gx_base.specs.declared.kinds.Kind.TheVariants.{Points}
+use Rattle.gx_base.specs.Methods.{is_method}
+use Rattle.gx_base.specs.PointKind.{PointDeed, Add, Remove, At, Nearest, Nothing, point_deed, point_action}
+use Rattle.gx_base.specs.RowActions.{RowAction}
+use Rattle.gx_base.specs.Spots.{spot_of_call}
+use Rattle.gx_base.specs.States.{State}
+use Rattle.gx_base.specs.Steps.{IsState}
+use Rattle.gx_base.proofs.CallerLemmas.{point_deed-foreign}
+use Rattle.kd_points.specs.declared.point_set.KdPoints.{KdPoints}
+use Rattle.kd_points.specs.TreeStates.{tree_state, dead_nodes, has_node}
+use Rattle.kd_points.specs.Rebuilding.{IsLean}
+use Rattle.kd_points.specs.TreePlaces.{tree_state-HoldsPlaces}
+
+-- the state of points
+abbrev pub points_state : KdPoints → State
+points_state points = tree_state points.tree
+
+-- how many distances `nearest` has taken, up to the greatest number of 64 bits
+abbrev pub distances_taken : KdPoints → ℕ
+distances_taken points = points.looked
+
+-- an add, or a remove, as it acts on the row of its point
+abbrev pub change_of : Bool → Call → RowAction
+change_of added c = if added then point_action Add c else point_action Remove c
+
+-- a call that replied 1 changed its point's node
+abbrev pub changed_room : Bool → Reply → Bool
+changed_room there reply = if int_eq reply.p (pos 1) then there else true
+
+abbrev pub room_for : PointDeed → Bool → Reply → Bool
+room_for Add there reply = changed_room there reply
+room_for Remove there reply = changed_room there reply
+room_for At there reply = true
+room_for Nearest there reply = true
+room_for Nothing there reply = true
+
+-- a call that changed a node has it, so it is undone and done again by a mark
+abbrev pub has_points_room : KdPoints → Made → Bool
+has_points_room points made = room_for (point_deed made.call.method) (has_node points.tree (spot_of_call made.call)) made.reply
+
+-- how many nodes hold no point
+abbrev pub dead_nodes_of : KdPoints → ℕ
+dead_nodes_of points = dead_nodes points.tree
+
+-- a rebuild would be for little
+abbrev pub IsTrim : KdPoints → Type 0
+IsTrim points = IsLean points.tree
+
+abbrev pub holds_points : Kind → Bool
+holds_points Points = true
+holds_points _ = false
+
+-- What follows is what the object says of every value. It stands here since that takes nothing from this crate's proofs.
+
+pub foreign-has_points_room : (points : KdPoints) (made : Made) → is_method (points_state points).kind made.call.method ≡ false → IsTrue (has_points_room points made)
+foreign-has_points_room points made foreign = subst (λ d. IsTrue (room_for d (has_node points.tree (spot_of_call made.call)) made.reply)) (sym (point_deed-foreign made.call.method foreign)) refl
+
+pub points_state-IsState : (points : KdPoints) → IsState (points_state points)
+points_state-IsState points key = tree_state-HoldsPlaces points.tree points.sound key

@@ -1,0 +1,36 @@
+-- A tree that is made anew, out of a list of points.
+use Rattle.std.specs.Prelude.{◌≡◌, ◌*◌, ◌≤◌, ℤ, true, is_some, Some, List, ◌⊎◌}
+use Rattle.std.specs.List.{Contains}
+use Rattle.gx_base.specs.declared.calls.Spot.{Spot}
+use Rattle.gx_base.specs.PointKind.{spot_at}
+use Rattle.slab.specs.Slab.{slab_len}
+use Rattle.kd_points.specs.declared.rebuild.TheConstants.{LEAST_REBUILT}
+use Rattle.kd_points.specs.declared.tree.Tree.{Tree}
+use Rattle.kd_points.specs.TreeStates.{tree_state, dead_nodes, IsSound}
+
+-- this is a point of the tree
+abbrev pub IsPointOf : Tree → Spot → Type 0
+IsPointOf tree r = spot_at (tree_state tree) r.id ≡ Some r
+
+-- some point of the tree has this id
+abbrev pub HasPoint : Tree → ℤ → Type 0
+HasPoint tree id = is_some (spot_at (tree_state tree) id) ≡ true
+
+-- the points of the new tree are those of the old one and of these; each id that had a point, or is one of these, has one;
+-- and no more nodes are dead
+pub record Gathers (old new : Tree) (spots : List Spot) : Type 0 where
+  pub none_else : (r : Spot) → IsPointOf new r → IsPointOf old r ⊎ Contains spots r
+  pub stay : (id : ℤ) → HasPoint old id → HasPoint new id
+  pub all : (r : Spot) → Contains spots r → HasPoint new r.id
+  pub dead : dead_nodes new ≤ dead_nodes old
+
+-- the new tree has the same points, and no dead nodes; no node counts as put in by itself
+pub record IsRebuilt (old new : Tree) : Type 0 where
+  pub sound : IsSound new
+  pub state : tree_state new ≡ tree_state old
+  pub none_dead : dead_nodes new ≡ 0
+  pub none_grown : new.grown ≡ 0
+
+-- the tree has fewer nodes than are rebuilt, or at most half of its nodes are dead, and at most half were put in one by one
+abbrev pub IsLean : Tree → Type 0
+IsLean tree = LEAST_REBUILT ≤ slab_len tree.nodes → (2 * dead_nodes tree ≤ slab_len tree.nodes) × (2 * tree.grown ≤ slab_len tree.nodes)

@@ -1,0 +1,96 @@
+-- What a tree of points stands for.
+use Rattle.std.specs.Prelude.{◌≡◌, ℕ, ◌+◌, ◌-◌, ℤ, Bool, true, false, cond, ◌&&◌, ◌||◌, Option, Some, None, List, [], ◌∷◌, if◌then◌else◌}
+use Rattle.std.specs.FinMap as map
+use Rattle.std.specs.Map.{lookup}
+use Rattle.std.specs.Ordering.{int_eq}
+use Rattle.gx_base.specs.declared.calls.Spot.{Spot}
+use Rattle.gx_base.specs.declared.kinds.Kind.TheVariants.{Points}
+use Rattle.gx_base.specs.Kinds.{kind_number}
+use Rattle.gx_base.specs.States.{State, row_cmp, rows_put, row_at}
+use Rattle.slab.specs.Slab.{get, slab_len, Updates}
+use Rattle.kd_points.specs.declared.nodes.Node.{Node}
+use Rattle.kd_points.specs.declared.tree.Tree.{Tree}
+use Rattle.kd_points.specs.Trees.{Nodes, is_point_of, IsTree}
+
+-- the node of a key
+abbrev pub node_at : Tree → Nodes
+node_at tree key = get tree.nodes key
+
+-- the key that stands for an id
+abbrev pub key_of : Tree → ℤ → Option ℕ
+key_of tree id = lookup (int_eq id) tree.numbers.entries
+
+-- the row of a point
+abbrev pub place : Spot → List ℤ
+place r = r.x ∷ r.y ∷ r.z ∷ []
+
+-- the row that a node is for an id: its point, where it is live and has this id
+abbrev pub row_of_node : ℤ → Option Node → Option (List ℤ)
+row_of_node id None = None
+row_of_node id (Some n) = if is_point_of id n then Some (place n.spot) else None
+
+-- the rows of these ids, each with the key of its node
+abbrev pub rows_of : Nodes → List (ℤ × ℕ) → map.FinMap row_cmp (List ℤ)
+rows_of look [] = map.empty
+rows_of look (e ∷ es) = rows_put (rows_of look es) (0, e.0) (row_of_node e.0 (look e.1))
+
+-- the state of points
+abbrev pub tree_state : Tree → State
+tree_state tree = record { kind = kind_number Points; rows = rows_of (node_at tree) tree.numbers.entries }
+
+-- the points of a state are as many
+abbrev pub count_of : State → ℕ
+count_of s = map.len s.rows
+
+-- how many nodes hold no point
+abbrev pub dead_nodes : Tree → ℕ
+dead_nodes tree = slab_len tree.nodes - tree.live
+
+-- what the code relies on: the nodes are a tree, and the points are counted
+pub record IsSound (tree : Tree) : Type 0 where
+  pub placed : IsTree (node_at tree) tree.root (slab_len tree.nodes) (key_of tree)
+  pub counted : tree.live ≡ count_of (tree_state tree)
+
+abbrev pub same_spot : Spot → Spot → Bool
+same_spot p q = int_eq p.id q.id && int_eq p.x q.x && int_eq p.y q.y && int_eq p.z q.z
+
+abbrev pub holds_spot : List (Option Node) → Spot → Bool
+holds_spot [] r = false
+holds_spot (None ∷ slots) r = holds_spot slots r
+holds_spot (Some n ∷ slots) r = same_spot n.spot r || holds_spot slots r
+
+-- the tree has a node for the spot, live or not
+abbrev pub has_node : Tree → Spot → Bool
+has_node tree r = holds_spot tree.nodes.slots r
+
+-- no live node has this id
+abbrev pub NoPoint : Tree → ℤ → Type 0
+NoPoint tree id = row_at (tree_state tree) (0, id) ≡ None
+
+-- each node has stayed, live or not
+abbrev pub KeepsNodes : Tree → Tree → Type 0
+KeepsNodes old new = (r : Spot) → has_node old r ≡ true → has_node new r ≡ true
+
+-- nothing has changed but the room that there is
+pub record IsAlike (old new : Tree) : Type 0 where
+  pub slots : new.nodes.slots ≡ old.nodes.slots
+  pub entries : new.numbers.entries ≡ old.numbers.entries
+  pub root : new.root ≡ old.root
+  pub live : new.live ≡ old.live
+
+-- a new node has this key, and its id stands for it
+pub record IsPlanted (old new : Tree) (key : ℕ) (node : Node) : Type 0 where
+  pub vacant : node_at old key ≡ None
+  pub nodes : Updates old.nodes new.nodes key (Some node)
+  pub size : slab_len new.nodes ≡ slab_len old.nodes + 1
+  pub keys : (id : ℤ) → key_of new id ≡ cond (int_eq node.spot.id id) (Some key) (key_of old id)
+  pub root : new.root ≡ old.root
+  pub live : new.live ≡ old.live
+
+-- the tree has no nodes
+pub record IsBlank (tree : Tree) : Type 0 where
+  pub slots : tree.nodes.slots ≡ []
+  pub entries : tree.numbers.entries ≡ []
+  pub root : tree.root ≡ None
+  pub live : tree.live ≡ 0
+  pub grown : tree.grown ≡ 0

@@ -1,0 +1,64 @@
+//! Calls of points as spots, and their replies.
+ghost use Rattle.std.specs.Prelude.{◌≡◌, pos, Some, if◌then◌else◌};
+ghost use Rattle.gx_base.specs.Meanings.{number_reply};
+ghost use Rattle.gx_base.specs.PointKind.{may_add, place_of, at_reply as reply_of_at, nearest_reply as reply_of_nearest};
+ghost use Rattle.gx_base.specs.RowActions.{same_content};
+ghost use Rattle.gx_base.specs.Spots as near;
+ghost use Rattle.kd_points.specs.TreeStates.{place};
+
+use gx_base::{Call, Reply, Spot};
+
+/// The four arguments as a point.
+pub fn spot_of_call(call: Call) -> Spot
+    ensures { result ≡ near.spot_of_call call }
+{
+    Spot {
+        id: call.a,
+        x: call.b,
+        y: call.c,
+        z: call.d,
+    }
+}
+
+/// Whether a point may have these arguments: its number is none below 0, and there is no third coordinate.
+pub fn is_addable(call: Call) -> bool
+    ensures { result ≡ may_add call }
+{
+    call.a >= 0 && call.d == 0
+}
+
+/// Whether a point stands where the arguments say.
+pub fn is_at(point: Spot, call: Call) -> bool
+    ensures { result ≡ same_content (Some (place point)) (place_of call) }
+{
+    point.x == call.b && (point.y == call.c && point.z == call.d)
+}
+
+pub fn yes_or_no(answer: bool) -> Reply
+    ensures { result ≡ number_reply (if answer then pos 1 else pos 0) }
+{
+    Reply {
+        p: if answer { 1 } else { 0 },
+        q: 0,
+        r: 0,
+        s: 0,
+    }
+}
+
+pub fn at_reply(point: Option<Spot>) -> Reply
+    ensures { result ≡ reply_of_at point }
+{
+    match point {
+        None => yes_or_no(false),
+        Some(spot) => Reply::new(1, spot.x, spot.y, spot.z),
+    }
+}
+
+pub fn nearest_reply(point: Option<Spot>) -> Reply
+    ensures { result ≡ reply_of_nearest point }
+{
+    match point {
+        None => Reply::new(-1, 0, 0, 0),
+        Some(spot) => Reply::new(spot.id, spot.x, spot.y, spot.z),
+    }
+}

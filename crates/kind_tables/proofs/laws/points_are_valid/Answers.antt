@@ -1,6 +1,0 @@
-use Rattle.gx_base.specs.declared.kinds.Kind.TheVariants.{Points}
-use Rattle.kind_tables.proofs.kinds.AllKinds.{tables_of-SuitKind}
-use Rattle.kind_tables.proofs.laws.points_are_valid.Goals as goal
-
-pub returns : goal.returns
-returns c = (tables_of-SuitKind Points).valid

@@ -1,0 +1,195 @@
+//! Thousands of drawn sets, each with a few dozen calls, some of them taken back and done again, each answer beside
+//! the list's.
+ghost use Rattle.std.specs.Prelude.{◌<◌};
+
+use crate::draws::Draws;
+use crate::list_of_points::ListOfPoints;
+use gx_base::{Call, NoMemory, Reply, SeqType};
+use kd_points::KdPoints;
+use kd_points::point_methods::{ADD, NEAREST, REMOVE};
+use std::alloc::Global;
+use std::test::Fail;
+
+const SETS: u64 = 2000;
+
+const STEPS: u64 = 80;
+
+const NUMBERS: u64 = 24;
+
+/// How the points of a set lie.
+#[derive(Clone, Copy, Drop)]
+enum Shape {
+    Anywhere,
+    Clusters,
+    OnePlace,
+    OneLine,
+    Extremes,
+    Grid,
+}
+
+fn shape_of(set: u64) -> Shape {
+    match set % 6 {
+        0 => Shape::Anywhere,
+        1 => Shape::Clusters,
+        2 => Shape::OnePlace,
+        3 => Shape::OneLine,
+        4 => Shape::Extremes,
+        _ => Shape::Grid,
+    }
+}
+
+fn drawn_place(draws: &mut Draws, shape: Shape) -> (i64, i64) {
+    let small = draws.below(5) as i64;
+    let other = draws.below(5) as i64;
+    match shape {
+        Shape::Anywhere => (draws.coordinate(), draws.coordinate()),
+        Shape::Clusters => (small % 2 * 1_000_000 + other, other * 1_000 + small),
+        Shape::OnePlace => (7, -7),
+        Shape::OneLine => (draws.coordinate(), 3),
+        Shape::Extremes => (
+            if small < 2 { i64::MIN } else { i64::MAX - small },
+            if other < 2 { i64::MAX } else { i64::MIN + other },
+        ),
+        Shape::Grid => (small, other),
+    }
+}
+
+fn drawn_call(draws: &mut Draws, shape: Shape) -> Call {
+    let method = ADD + draws.below(4) as u32;
+    let id = draws.below(NUMBERS) as i64 - 1;
+    let (x, y) = drawn_place(draws, shape);
+    let z = if draws.below(16) == 0 { 1 } else { 0 };
+    Call::new(method, id, x, y, z)
+}
+
+/// How many calls there were of each sort, and how many answers differed from the list's.
+#[derive(Clone, Copy, Drop)]
+struct Counts {
+    changed: u64,
+    found: u64,
+    undone: u64,
+    differing: u64,
+}
+
+fn counted(count: u64, more: bool) -> u64 {
+    if more { count.saturating_add(1) } else { count }
+}
+
+fn same_points(points: &KdPoints, list: &ListOfPoints) -> bool {
+    for id in -1..NUMBERS as i64 {
+        if points.at(id) != list.at(id) {
+            return false;
+        }
+    }
+    points.count() == list.count()
+}
+
+/// Takes back a call that replied 1, in the list.
+fn take_back(list: &mut ListOfPoints, call: Call) -> Result<(), NoMemory> {
+    let spot = gx_base::Spot {
+        id: call.a,
+        x: call.b,
+        y: call.c,
+        z: call.d,
+    };
+    match call.method {
+        ADD => list.take_out(spot.id),
+        REMOVE => list.put(spot)?,
+        _ => {}
+    }
+    Ok(())
+}
+
+/// A call, or a call that is taken back and maybe done again.
+fn step(
+    points: &mut KdPoints,
+    list: &mut ListOfPoints,
+    draws: &mut Draws,
+    shape: Shape,
+    counts: &mut Counts,
+) -> Result<(), NoMemory> {
+    let call = drawn_call(draws, shape);
+    let reply = points.apply(call)?;
+    let wanted = list.apply(call)?;
+    let changing = call.method == ADD || call.method == REMOVE;
+    counts.differing = counted(counts.differing, reply != wanted);
+    counts.changed = counted(counts.changed, changing && reply.p == 1);
+    counts.found = counted(counts.found, call.method == NEAREST && reply.p != -1);
+    if draws.below(3) == 0 {
+        return Ok(());
+    }
+    counts.differing = counted(counts.differing, !points.roomed(call, reply));
+    if draws.below(2) == 0 && points.roomed(call, reply) {
+        points.undo(call, reply);
+        if changing && reply.p == 1 {
+            take_back(list, call)?;
+        }
+        counts.undone = counted(counts.undone, true);
+        counts.differing = counted(counts.differing, !same_points(points, list));
+    }
+    if draws.below(20) == 0 {
+        points.tidy()?;
+        counts.differing = counted(counts.differing, !same_points(points, list));
+    }
+    Ok(())
+}
+
+fn run_set(alloc: Global, set: u64, counts: &mut Counts) -> Result<(), NoMemory> {
+    let mut points = KdPoints::new(alloc);
+    let mut list = ListOfPoints::new(alloc);
+    let mut draws = Draws::new(set);
+    for _ in 0..STEPS {
+        step(&mut points, &mut list, &mut draws, shape_of(set), counts)?;
+    }
+    counts.differing = counted(counts.differing, !same_points(&points, &list));
+    Ok(())
+}
+
+#[test]
+fn drawn_sets_are_as_the_list(rt: HostRuntime) -> Result<(), Fail> {
+    let mut counts = Counts {
+        changed: 0,
+        found: 0,
+        undone: 0,
+        differing: 0,
+    };
+    for set in 0..SETS {
+        run_set(rt.alloc(), set, &mut counts)?;
+    }
+    assert_eq!(rt; counts.differing, 0);
+    assert!(rt; counts.changed > 20000 && counts.found > 20000 && counts.undone > 20000);
+    Ok(())
+}
+
+/// A call that was undone is done again, after it as before.
+fn again(points: &mut KdPoints, call: Call) -> Result<bool, NoMemory> {
+    let reply = points.apply(call)?;
+    if !points.roomed(call, reply) {
+        return Ok(false);
+    }
+    let before = points.at(call.a);
+    points.undo(call, reply);
+    let second = points.apply(call)?;
+    Ok(second == reply && points.at(call.a) == before)
+}
+
+#[test]
+fn a_number_is_taken_out_and_put_in_elsewhere(rt: HostRuntime) -> Result<(), Fail> {
+    let mut points = KdPoints::new(rt.alloc());
+    let calls = [
+        Call::new(ADD, 4, 1, 1, 0),
+        Call::new(REMOVE, 4, 1, 1, 0),
+        Call::new(ADD, 4, 2, 2, 0),
+        Call::new(REMOVE, 4, 1, 1, 0),
+        Call::new(REMOVE, 4, 2, 2, 0),
+        Call::new(ADD, 4, 1, 1, 0),
+    ];
+    for call in calls {
+        assert!(rt; again(&mut points, call)?);
+    }
+    let yes = Reply::new(1, 0, 0, 0);
+    assert!(rt; points.roomed(calls[2], yes) && points.roomed(calls[0], yes));
+    assert!(rt; points.apply(Call::new(NEAREST, 9, 0, 0, 0))? == Reply::new(4, 1, 1, 0));
+    assert_eq!(rt; points.count(), 1);
+    Ok(())
+}
