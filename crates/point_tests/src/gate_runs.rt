@@ -66,27 +66,33 @@ impl Calls {
         self.live = rest;
         Ok(())
     }
+}
 
-    /// Whether all calls, done again in their order, reply what they replied, and leave these points.
-    fn leave(&self, alloc: Global, points: &KdPoints) -> Result<bool, NoMemory> {
-        let mut list = ListOfPoints::new(alloc);
-        for held in &self.committed {
-            if list.apply(held.call)? != held.reply {
-                return Ok(false);
-            }
-        }
-        for held in &self.live {
-            if list.apply(held.call)? != held.reply {
-                return Ok(false);
-            }
-        }
-        for id in 0..NUMBERS as i64 {
-            if list.at(id) != points.at(id) {
-                return Ok(false);
-            }
-        }
-        Ok(list.count() == points.count())
+/// Whether the calls, done in their order, reply what they replied.
+fn replays(list: &mut ListOfPoints, calls: &[Held]) -> Result<bool, NoMemory> {
+    let mut same = true;
+    for held in calls {
+        let reply = list.apply(held.call)?;
+        same = same && reply == held.reply;
     }
+    Ok(same)
+}
+
+fn same_points(list: &ListOfPoints, points: &KdPoints) -> bool {
+    for id in 0..NUMBERS as i64 {
+        if list.at(id) != points.at(id) {
+            return false;
+        }
+    }
+    list.count() == points.count()
+}
+
+/// Whether all calls, done again in their order, reply what they replied, and leave these points.
+fn leave(alloc: Global, calls: &Calls, points: &KdPoints) -> Result<bool, NoMemory> {
+    let mut list = ListOfPoints::new(alloc);
+    let committed = replays(&mut list, &calls.committed)?;
+    let live = replays(&mut list, &calls.live)?;
+    Ok(committed && live && same_points(&list, points))
 }
 
 /// How many steps of each sort there were.
@@ -116,7 +122,12 @@ fn make_call(
     match gate.call(worker, iter, ITEM, call) {
         Ok(reply) => {
             counts.admitted = counts.admitted.saturating_add(1);
-            held.live.push(Held { worker, iter, call, reply })?;
+            held.live.push(Held {
+                worker,
+                iter,
+                call,
+                reply,
+            })?;
         }
         Err(_) => counts.refused = counts.refused.saturating_add(1),
     }
@@ -130,6 +141,23 @@ fn releases(gate: &mut PointGate, worker: u32, iter: u64) {
     }
 }
 
+fn undoes(
+    gate: &mut PointGate,
+    held: &mut Calls,
+    counts: &mut Counts,
+    worker: u32,
+    iter: u64,
+) -> bool {
+    match (gate.undo_last(worker, iter), held.undo_last(worker, iter)) {
+        (Some((call, reply)), Some(entry)) => {
+            counts.undone = counts.undone.saturating_add(1);
+            call == entry.call && reply == entry.reply
+        }
+        (None, None) => true,
+        _ => false,
+    }
+}
+
 fn step(
     alloc: Global,
     gate: &mut PointGate,
@@ -140,12 +168,7 @@ fn step(
     let worker = draws.below(3) as u32;
     let iter = draws.below(2);
     match draws.below(10) {
-        0 | 1 => {
-            let undone = gate.undo_last(worker, iter);
-            let wanted = held.undo_last(worker, iter).map(|entry: Held| (entry.call, entry.reply));
-            counts.undone = counts.undone.saturating_add(if undone.is_some() { 1 } else { 0 });
-            Ok(undone == wanted)
-        }
+        0 | 1 => Ok(undoes(gate, held, counts, worker, iter)),
         2 => {
             counts.released = counts.released.saturating_add(1);
             held.release(alloc, worker, iter)?;
@@ -169,7 +192,7 @@ fn run(alloc: Global, seed: u64, counts: &mut Counts) -> Result<bool, NoMemory> 
     let mut draws = Draws::new(seed);
     for _ in 0..100 {
         let same = step(alloc, &mut gate, &mut held, &mut draws, counts)?;
-        if !same || !held.leave(alloc, gate.object())? {
+        if !same || !leave(alloc, &held, gate.object())? {
             return Ok(false);
         }
     }

@@ -47,8 +47,16 @@ fn drawn_place(draws: &mut Draws, shape: Shape) -> (i64, i64) {
         Shape::OnePlace => (7, -7),
         Shape::OneLine => (draws.coordinate(), 3),
         Shape::Extremes => (
-            if small < 2 { i64::MIN } else { i64::MAX - small },
-            if other < 2 { i64::MAX } else { i64::MIN + other },
+            if small < 2 {
+                i64::MIN
+            } else {
+                i64::MAX - small
+            },
+            if other < 2 {
+                i64::MAX
+            } else {
+                i64::MIN + other
+            },
         ),
         Shape::Grid => (small, other),
     }

@@ -38,7 +38,7 @@ fn nearest_looks(rt: HostRuntime) -> Result<(), Fail> {
 fn a_line_in_order_is_deep_and_found(rt: HostRuntime) -> Result<(), Fail> {
     let mut points = KdPoints::new(rt.alloc());
     for id in 0..LONG_LINE {
-        points.apply(Call::new(ADD, id, id * 3, 0, 0))?;
+        points.apply(Call::new(ADD, id, id.wrapping_mul(3), 0, 0))?;
     }
     let first = points.apply(Call::new(NEAREST, LONG_LINE, -1, 0, 0))?;
     assert!(rt; first == Reply::new(0, 0, 0, 0));
@@ -56,7 +56,7 @@ fn a_line_in_order_is_deep_and_found(rt: HostRuntime) -> Result<(), Fail> {
 fn equal_points_are_found_by_number(rt: HostRuntime) -> Result<(), Fail> {
     let mut points = KdPoints::new(rt.alloc());
     for step in 0..LONG_LINE {
-        points.apply(Call::new(ADD, step * 7919 % LONG_LINE, 5, 5, 0))?;
+        points.apply(Call::new(ADD, step.wrapping_mul(7919) % LONG_LINE, 5, 5, 0))?;
     }
     points.tidy()?;
     assert!(rt; points.apply(Call::new(NEAREST, 7, 5, 5, 0))? == Reply::new(0, 5, 5, 0));
@@ -75,7 +75,16 @@ fn refused_calls_change_nothing(rt: HostRuntime) -> Result<(), Fail> {
     assert!(rt; points.apply(Call::new(ADD, 1, 5, 5, 0))? == no);
     assert!(rt; points.apply(Call::new(REMOVE, 1, 5, 5, 0))? == no);
     assert!(rt; points.apply(Call::new(99, 1, 5, 5, 0))? == no);
-    assert!(rt; points.at(1) == Some(Spot { id: 1, x: 0, y: 0, z: 0 }) && points.at(2).is_none());
+    assert!(rt;
+        points.at(1)
+            == Some(Spot {
+                id: 1,
+                x: 0,
+                y: 0,
+                z: 0
+            })
+            && points.at(2).is_none()
+    );
     assert!(rt; points.apply(Call::new(NEAREST, 1, 0, 0, 0))? == Reply::new(-1, 0, 0, 0));
     assert_eq!(rt; points.count(), 1);
     assert_eq!(rt; points.observe(1), 0);
