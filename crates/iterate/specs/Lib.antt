@@ -1,0 +1,2 @@
+pub mod RoomLists
+pub mod SessionViews

@@ -2,5 +2,7 @@
 #![tactic(auto)]
 
 mod events;
+mod releases;
+mod session;
 
 pub use events::{Event, Stop, Turn};
