@@ -1,8 +1,8 @@
-ghost use Rattle.std.specs.Prelude.{◌≡◌, ◌≤◌, if◌then◌else◌, [], false, length, ◌∷◌, ◌++◌, IsTrue, ◌↔◌, OnOk, OnErr, IfOk};
+ghost use Rattle.std.specs.Prelude.{◌≡◌, ◌≤◌, ℕ, if◌then◌else◌, [], false, length, ◌∷◌, ◌++◌, IsTrue, ◌↔◌, OnOk, OnErr, IfOk};
 ghost use Rattle.gx_base.specs.Outcomes.{journal};
 ghost use Rattle.gx_base.specs.SerialRuns.{all_counted};
 ghost use Rattle.gx_base.specs.Worklists.{has_item, with_items, without_item, without_items};
-ghost use Rattle.commit_book.specs.BookViews.{most_steps};
+ghost use Rattle.commit_book.specs.BookViews.{most_steps, without_item_held};
 ghost use Rattle.commit_book.specs.LawfulBooks.{AreRising, refusal};
 ghost use Rattle.commit_book.specs.StoredBooks.{whole_commit};
 
@@ -44,7 +44,7 @@ impl Model for Book {
 }
 
 impl Book {
-    ghost use Rattle.commit_book.specs.BookViews.{free_item, new_book, next_free, put_back, commit};
+    ghost use Rattle.commit_book.specs.BookViews.{free_item, new_book, next_free, put_back, is_named, commit};
     ghost use Rattle.commit_book.specs.LawfulBooks.{IsLawfulBook, IsRefusedBy};
 
     /// A book with no items, for a place that a book is taken from. It takes no memory.
@@ -75,6 +75,13 @@ impl Book {
             past: Past::new(alloc),
             added: Vec::new(alloc),
         })
+    }
+
+    /// Whether items commit in their order.
+    pub fn ordered(&self) -> bool
+        ensures { result ≡ self.now.ordered }
+    {
+        self.ordered
     }
 
     /// Whether nothing is ready.
@@ -129,6 +136,13 @@ impl Book {
         self.holds.end_iteration(worker, iter);
     }
 
+    /// No call of a book names an iteration, so none is named. For proofs: it does nothing.
+    pub fn nobody_is_named(&self)
+        ensures { (worker iter : ℕ) → is_named self.now worker iter ≡ false }
+    {
+        self.holds.nobody_is_named();
+    }
+
     /// Commits an item with the steps and the pushes of its body, and answers how many had committed before.
     pub fn commit(
         &mut self,
@@ -164,8 +178,7 @@ impl Book {
             self.ready.remove_all(self.added.as_slice());
             return Err(CommitRefuse::NoMemory);
         }
-        leave(&mut self.ready, item, pushes);
-        self.holds.end_item(item);
+        leave(&mut self.ready, &mut self.holds, item, pushes);
         Ok(number)
     }
 }
@@ -216,10 +229,12 @@ fn take_in(
     past.append(commit, log, pushes)
 }
 
-// An item that has committed is ready no more, unless its own body has pushed it.
-fn leave(ready: &mut Worklist, item: Item, pushes: &[Item])
-    ensures { ready.new ≡ (if has_item pushes.now item then ready.old else without_item ready.old item) }
+// An item that has committed is held no more, and it is ready no more, unless its own body has pushed it.
+fn leave(ready: &mut Worklist, holds: &mut Holds, item: Item, pushes: &[Item])
+    ensures ready { ready.new ≡ (if has_item pushes.now item then ready.old else without_item ready.old item) }
+    ensures holds { holds.new ≡ without_item_held holds.old item }
 {
+    holds.end_item(item);
     if !is_among(pushes, item) {
         ready.remove(item);
     }

@@ -1,5 +1,5 @@
-ghost use Rattle.std.specs.Prelude.{◌≡◌, [], false, OnOk, OnErr};
-ghost use Rattle.commit_book.specs.BookViews.{Hold, is_held, held_by, with_hold, without_iteration, without_item_held};
+ghost use Rattle.std.specs.Prelude.{◌≡◌, ℕ, [], false, OnOk, OnErr};
+ghost use Rattle.commit_book.specs.BookViews.{Hold, is_held, held_by, with_hold, without_iteration, without_item_held, is_named_in};
 
 use gx_base::{Item, NoMemory};
 use std::alloc::Global;
@@ -61,6 +61,13 @@ impl Holds {
             }
         }
         None
+    }
+
+    /// Holds are kept without names. For proofs: it does nothing.
+    pub fn nobody_is_named(&self)
+        ensures { (worker iter : ℕ) → is_named_in self.now worker iter ≡ false }
+    {
+        let _holders = self.holders.len();
     }
 
     /// Ends the hold of an item. It is no fault if there is none.

@@ -1,4 +1,4 @@
-ghost use Rattle.std.specs.Prelude.{◌≡◌, ◌↔◌, ℕ, [], ◌∷◌, take, IsTrue, IfSome, IfNone, OnOk, OnErr};
+ghost use Rattle.std.specs.Prelude.{◌≡◌, ◌↔◌, ℕ, [], take, IsTrue, IfSome, IfNone, OnOk, OnErr};
 ghost use Rattle.gx_base.specs.Worklists.{has_item, is_least, with_item, with_items, without_item, without_items};
 ghost use Rattle.commit_book.specs.BookViews.{first_free};
 ghost use Rattle.commit_book.specs.LawfulBooks.{AreRising, least_before};
@@ -132,16 +132,5 @@ impl Worklist {
         ensures { self.new ≡ without_item self.old item }
     {
         self.items.remove(&item);
-    }
-
-    /// Takes out the least item.
-    pub fn take_least(&mut self) -> Option<Item>
-        ensures first { IfSome result (λ item. self.old ≡ item ∷ self.new) }
-        ensures ready { IfSome result (λ item. IsTrue (has_item self.old item)) }
-        ensures least { IfSome result (λ item. IsTrue (is_least self.old item)) }
-        ensures others { IfSome result (λ item. self.new ≡ without_item self.old item) }
-        ensures none { IfNone result ((self.old ≡ []) × (self.new ≡ [])) }
-    {
-        self.items.pop_first()
     }
 }

@@ -1,7 +1,7 @@
 -- How far the tokens of a condition are read, and whether the words there are known.
 use Rattle.std.specs.Prelude.{◌≡◌, ℕ, ◌+◌, ◌-◌, Bool, true, false, ◌&&◌, ◌==◌, if◌then◌else◌, List, [], ◌∷◌, ◌++◌, is_some}
 use Rattle.cond_syntax.specs.Tokens.{Token, Word, BeyondKey, Open, Close}
-use Rattle.cond_syntax.specs.Written.{Written, term_named, part_named}
+use Rattle.cond_syntax.specs.WrittenConditions.{WrittenCondition, term_named, part_named}
 use Rattle.cond_syntax.specs.Grammar.{IsCondition}
 
 -- how many parentheses may be open at one place
@@ -35,7 +35,7 @@ is_cut ts = is_cut_from 0 ts
 pub record IsOfForm (ts : List Token) : Type 0 where
   pub more : List Token
   pub whole : is_cut ts ≡ false → more ≡ []
-  pub tree : Written
+  pub tree : WrittenCondition
   pub condition : IsCondition (front_of ts ++ more) [] tree
 
 -- whether a word is known, between the parentheses of `beyond` or elsewhere

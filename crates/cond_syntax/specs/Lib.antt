@@ -1,6 +1,6 @@
 pub mod Pieces
 pub mod Tokens
-pub mod Written
+pub mod WrittenConditions
 pub mod Grammar
 pub mod Fronts
 pub mod TableTexts

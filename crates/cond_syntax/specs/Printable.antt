@@ -7,7 +7,7 @@ use Rattle.gx_base.specs.Conditions.{Condition, True, False, Eq, Ne, Lt, Le, And
 use Rattle.gx_base.specs.Kinds.{kind_number}
 use Rattle.gx_base.specs.Tables.{Rows, KeepsToKind}
 use Rattle.gx_base.specs.TableRows.{RowMap, row_of}
-use Rattle.cond_syntax.specs.Written.{has_state_function}
+use Rattle.cond_syntax.specs.WrittenConditions.{has_state_function}
 use Rattle.cond_syntax.specs.TableTexts.{most_deep, IsTableText}
 
 -- a number of at most 18 digits, a value's place up to 7, and a state function for a kind that has one

@@ -11,7 +11,7 @@ use Rattle.gx_base.specs.TableRows.{RowMap}
 use Rattle.text_lines.specs.Lines.{lines_of}
 use Rattle.text_lines.specs.Fields.{is_blank}
 use Rattle.cond_syntax.specs.Tokens.{Token, Word, TypeKey, Colon, tokens_of}
-use Rattle.cond_syntax.specs.Written.{Written, depth_of, condition_in}
+use Rattle.cond_syntax.specs.WrittenConditions.{WrittenCondition, depth_of, condition_in}
 use Rattle.cond_syntax.specs.Grammar.{IsCondition}
 use Rattle.cond_syntax.specs.Fronts.{front_of, is_cut, IsOfForm, all_known}
 
@@ -60,7 +60,7 @@ pub record AreMethods (kind : Kind) (first second : List ℕ) (i j : ℕ) : Type
 -- the tokens are a condition of the kind, whole and not too deep
 pub record Spells (kind : Kind) (ts : List Token) (condition : Condition) : Type 0 where
   pub shallow : is_cut ts ≡ false
-  pub tree : Written
+  pub tree : WrittenCondition
   pub spelled : IsCondition ts [] tree
   pub means : condition_in (kind_number kind) tree ≡ Some condition
   pub depth : depth_of tree ≤ most_deep
@@ -68,7 +68,7 @@ pub record Spells (kind : Kind) (ts : List Token) (condition : Condition) : Type
 -- More than 64 parentheses are open at one place, or the tokens are a condition whose tree is more than 64 deep. That
 -- they have the form of a condition is said where this is used.
 abbrev pub IsTooDeep : List Token → Type 0
-IsTooDeep ts = (is_cut ts ≡ true) ⊎ ((tree : Written) × IsCondition ts [] tree × (most_deep < depth_of tree))
+IsTooDeep ts = (is_cut ts ≡ true) ⊎ ((tree : WrittenCondition) × IsCondition ts [] tree × (most_deep < depth_of tree))
 
 -- ---- reading from line to line
 

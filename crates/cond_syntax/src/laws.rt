@@ -7,7 +7,7 @@ ghost use Rattle.gx_base.specs.Conditions.{Condition};
 ghost use Rattle.gx_base.specs.TableRows.{RowMap, row_of};
 ghost use Rattle.gx_base.specs.Tables.{Rows};
 ghost use Rattle.cond_syntax.specs.Tokens.{Token, tokens_of};
-ghost use Rattle.cond_syntax.specs.Written.{Written, condition_in};
+ghost use Rattle.cond_syntax.specs.WrittenConditions.{WrittenCondition, condition_in};
 ghost use Rattle.cond_syntax.specs.Grammar.{IsCondition};
 ghost use Rattle.cond_syntax.specs.Fronts.{all_known};
 ghost use Rattle.cond_syntax.specs.TableTexts.{Spells, IsTableText, Fault, IsFirstFault};
@@ -16,13 +16,13 @@ ghost use Rattle.cond_syntax.specs.Printable.{IsPrintable, IsPrintableTable, IsR
 
 /// Tokens spell one condition at most.
 pub fn tokens_spell_one_condition()
-    ensures { (ts : List Token) (c d : Written) → IsCondition ts [] c → IsCondition ts [] d → c ≡ d }
+    ensures { (ts : List Token) (c d : WrittenCondition) → IsCondition ts [] c → IsCondition ts [] d → c ≡ d }
 {}
 
 /// A spelled condition has a meaning for a kind exactly where each word of its tokens is known there.
 pub fn known_words_mean_a_condition()
-    ensures known { (kind : ℕ) (ts : List Token) (c : Written) → IsCondition ts [] c → all_known kind false ts ≡ true → (d : Condition) × (condition_in kind c ≡ Some d) }
-    ensures unknown { (kind : ℕ) (ts : List Token) (c : Written) → IsCondition ts [] c → all_known kind false ts ≡ false → condition_in kind c ≡ None }
+    ensures known { (kind : ℕ) (ts : List Token) (c : WrittenCondition) → IsCondition ts [] c → all_known kind false ts ≡ true → (d : Condition) × (condition_in kind c ≡ Some d) }
+    ensures unknown { (kind : ℕ) (ts : List Token) (c : WrittenCondition) → IsCondition ts [] c → all_known kind false ts ≡ false → condition_in kind c ≡ None }
 {}
 
 /// Bytes are the text of one table at most.

@@ -1,10 +1,10 @@
 -- The tokens that the code hands out.
 use Rattle.cond_syntax.specs.Tokens as plain
-use Rattle.cond_text.specs.declared.tokens.Token.{Token}
-use Rattle.cond_text.specs.declared.tokens.Token.TheVariants.{Word, Number, TypeKey, OrKey, AndKey, NotKey, TrueKey, FalseKey, BeyondKey, Open, Close, Comma, Colon, Equal, Differ, Less, AtMost, Odd}
+use Rattle.cond_text.specs.declared.tokens.TextToken.{TextToken}
+use Rattle.cond_text.specs.declared.tokens.TextToken.TheVariants.{Word, Number, TypeKey, OrKey, AndKey, NotKey, TrueKey, FalseKey, BeyondKey, Open, Close, Comma, Colon, Equal, Differ, Less, AtMost, Odd}
 
 -- the token, with the signs of a word in place of the reference to them
-abbrev pub token_seen : Token → plain.Token
+abbrev pub token_seen : TextToken → plain.Token
 token_seen (Word word) = plain.Word word.now
 token_seen (Number number) = plain.Number number
 token_seen TypeKey = plain.TypeKey

@@ -1,8 +1,8 @@
 -- Comparisons as they are written.
 use Rattle.std.specs.Prelude.{Option, Some, None, List}
 use Rattle.cond_syntax.specs.Tokens as plain
-use Rattle.cond_syntax.specs.Written.{WrittenTerm, Fixed, Named, Far, IsEqual, IsOther, IsLess, IsAtMost, Written, Compare}
-use Rattle.cond_syntax.specs.Written as written
+use Rattle.cond_syntax.specs.WrittenConditions.{WrittenTerm, Fixed, Named, Far, IsEqual, IsOther, IsLess, IsAtMost, WrittenCondition, Compare}
+use Rattle.cond_syntax.specs.WrittenConditions as written
 use Rattle.cond_text.specs.Machine.{Frame, Due, State, OpenDue, term_done}
 use Rattle.cond_text.specs.declared.terms.Spelled.{Spelled}
 use Rattle.cond_text.specs.declared.terms.Spelled.TheVariants.{Number, Word, Beyond}
@@ -21,7 +21,7 @@ relation_spelled Differ = IsOther
 relation_spelled Less = IsLess
 relation_spelled AtMost = IsAtMost
 
-abbrev pub comparison_spelled : Comparison → Written
+abbrev pub comparison_spelled : Comparison → WrittenCondition
 comparison_spelled c = Compare (relation_spelled c.relation) (term_spelled c.left) (term_spelled c.right)
 
 -- the state after the token that begins a term

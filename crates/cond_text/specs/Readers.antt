@@ -1,7 +1,7 @@
 -- What has been read, as a state of the grammar's machine.
 use Rattle.std.specs.Prelude.{◌≡◌, ℕ, List, [], ◌∷◌, reverse, Option, Some, None, Result, Ok, Err}
 use Rattle.gx_base.specs.Kinds.{kind_number}
-use Rattle.cond_syntax.specs.Written.{Written, True, False}
+use Rattle.cond_syntax.specs.WrittenConditions.{WrittenCondition, True, False}
 use Rattle.cond_text.specs.Machine as machine
 use Rattle.cond_text.specs.Machine.{Frame, State, Operand, Whole, First, unit_done}
 use Rattle.cond_text.specs.Comparisons.{term_begun}
@@ -23,24 +23,24 @@ abbrev pub AreOutside : ℕ → List Level → Option (List Frame) → Type 0
 AreOutside kind [] base = base ≡ None
 AreOutside kind (level ∷ levels) base = (frames : List Frame) × (below : Option (List Frame)) × (base ≡ Some frames) × IsLevel kind level below frames × AreOutside kind levels below
 
-abbrev pub IsPlace : ℕ → Option (List Frame) → Place → State → Type 0
-IsPlace kind base (Due level) state = LeadsLevel kind base state level
-IsPlace kind base (Done conjunction) state = LeadsConjunction kind base state conjunction
+abbrev pub IsReaderPlace : ℕ → Option (List Frame) → Place → State → Type 0
+IsReaderPlace kind base (Due level) state = LeadsLevel kind base state level
+IsReaderPlace kind base (Done conjunction) state = LeadsConjunction kind base state conjunction
 
 -- what has been read is this state, with the words of a kind
-pub record IsRead (kind : ℕ) (reader : Reader) (state : State) : Type 0 where
+pub record HasReached (kind : ℕ) (reader : Reader) (state : State) : Type 0 where
   pub base : Option (List Frame)
   pub outer : AreOutside kind (reverse reader.outer.items) base
-  pub place : IsPlace kind base reader.place state
+  pub place : IsReaderPlace kind base reader.place state
 
 -- the reader has come to this state, if there is one
 abbrev pub IsTaken : ℕ → Option State → Option Reader → Type 0
-IsTaken kind state (Some reader) = (next : State) × IsRead kind reader next × (state ≡ Some next)
+IsTaken kind state (Some reader) = (next : State) × HasReached kind reader next × (state ≡ Some next)
 IsTaken kind state None = state ≡ None
 
 -- What is read leads from this state, if there is one, to that of the reader.
 abbrev pub LeadsReader : ℕ → Source → Source → Option State → Result Reader Stop → Type 0
-LeadsReader kind old new state (Ok reader) = (next : State) × IsRead kind reader next × (reading state old ≡ reading (Some next) new)
+LeadsReader kind old new state (Ok reader) = (next : State) × HasReached kind reader next × (reading state old ≡ reading (Some next) new)
 LeadsReader kind old new state (Err stop) = Stops old state stop
 
 -- the state after a token where a unit is due, no `not` and no parenthesis
@@ -51,19 +51,19 @@ unit_begun frames t = term_begun First frames t
 
 -- what is read is a unit that this token begins, no `not` and no parenthesis
 abbrev pub LeadsUnit : Source → Source → Token → Result Draft Stop → Type 0
-LeadsUnit old new t (Ok draft) = (written : Written) × IsDraft (kind_number old.kind) written draft × ((frames : List Frame) → reading (unit_begun frames t) old ≡ reading (Some (unit_done written frames)) new)
+LeadsUnit old new t (Ok draft) = (written : WrittenCondition) × IsDraft (kind_number old.kind) written draft × ((frames : List Frame) → reading (unit_begun frames t) old ≡ reading (Some (unit_done written frames)) new)
 LeadsUnit old new t (Err stop) = (frames : List Frame) → Stops old (unit_begun frames t) stop
 
 -- the condition that has been read, if it is whole
-abbrev pub IsEnded : ℕ → Option Written → Result Draft Stop → Type 0
-IsEnded kind whole (Ok draft) = (written : Written) × IsDraft kind written draft × (whole ≡ Some written)
+abbrev pub IsEnded : ℕ → Option WrittenCondition → Result Draft Stop → Type 0
+IsEnded kind whole (Ok draft) = (written : WrittenCondition) × IsDraft kind written draft × (whole ≡ Some written)
 IsEnded kind whole (Err Wrong) = whole ≡ None
 IsEnded kind whole (Err Cut) = ⊥
 IsEnded kind whole (Err NoMemory) = Unit {0}
 
 -- what reading all tokens comes to
 abbrev pub IsReadWhole : Source → Source → Result Draft Stop → Type 0
-IsReadWhole old new (Ok draft) = (written : Written) × IsDraft (kind_number old.kind) written draft × (reading (Some (Operand [])) old ≡ Whole written) × IsAtEnd new
+IsReadWhole old new (Ok draft) = (written : WrittenCondition) × IsDraft (kind_number old.kind) written draft × (reading (Some (Operand [])) old ≡ Whole written) × IsAtEnd new
 IsReadWhole old new (Err Wrong) = reading (Some (Operand [])) old ≡ machine.Wrong
 IsReadWhole old new (Err Cut) = (reading (Some (Operand [])) old ≡ machine.Cut) × IsAtEnd new
 IsReadWhole old new (Err NoMemory) = Unit {0}

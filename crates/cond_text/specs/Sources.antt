@@ -8,7 +8,7 @@ use Rattle.cond_syntax.specs.Fronts.{front_from, is_cut_from, all_known}
 use Rattle.cond_text.specs.Machine as machine
 use Rattle.cond_text.specs.Machine.{State, Reading, run, ended, step, whole, whole_or_wrong}
 use Rattle.cond_text.specs.CodeTokens.{token_seen}
-use Rattle.cond_text.specs.declared.tokens.Token.{Token}
+use Rattle.cond_text.specs.declared.tokens.TextToken.{TextToken}
 use Rattle.cond_text.specs.declared.sources.Source.{Source}
 use Rattle.cond_text.specs.declared.sources.Next.{Next}
 use Rattle.cond_text.specs.declared.sources.Next.TheVariants.{Read, End}
@@ -29,7 +29,7 @@ unfoldable pub words_known : Source → Bool
 words_known source = source.all_known && all_known (kind_number source.kind) source.inside (tokens_ahead source)
 
 -- nothing of a text has been read
-pub record IsStart (wanted : Kind) (text : List ℕ) (source : Source) : Type 0 where
+pub record IsSourceStart (wanted : Kind) (text : List ℕ) (source : Source) : Type 0 where
   pub kind : source.kind ≡ wanted
   pub known : words_known source ≡ all_known (kind_number wanted) false (front_from 0 (tokens_of text))
   pub reads : (state : State) → reading (Some state) source ≡ machine.read_from (is_cut_from 0 (tokens_of text)) state (front_from 0 (tokens_of text))
@@ -78,6 +78,6 @@ StopsToken source state Cut = reading (Some state) source ≡ machine.Cut
 StopsToken source state NoMemory = ⊥
 
 -- one token has been read that has to be there
-abbrev pub LeadsToken : Source → Source → State → Result Token Stop → Type 0
+abbrev pub LeadsToken : Source → Source → State → Result TextToken Stop → Type 0
 LeadsToken old new state (Ok token) = reading (Some state) old ≡ reading (step state (token_seen token)) new
 LeadsToken old new state (Err stop) = StopsToken old state stop

@@ -1,7 +1,7 @@
 //! Conditions that are read, as long as they can be answered.
 
 ghost use Rattle.std.specs.Prelude.{◌≡◌, ◌≤◌, ◌+◌, ℕ, min, max, MatchOption, IfOk};
-ghost use Rattle.cond_syntax.specs.Written.{Written, And, Or, Not};
+ghost use Rattle.cond_syntax.specs.WrittenConditions.{WrittenCondition, And, Or, Not};
 ghost use Rattle.cond_text.specs.Drafts as drafts;
 ghost use Rattle.cond_text.specs.Drafts.{IsDraft};
 
@@ -22,7 +22,7 @@ pub(crate) enum Draft {
 
 /// A draft's `not`.
 fn negated(alloc: Global, draft: Draft) -> Result<Draft, NoMemory>
-    ensures { (kind : ℕ) (written : Written) → IsDraft kind written draft → IfOk result (IsDraft kind (Not written)) }
+    ensures { (kind : ℕ) (written : WrittenCondition) → IsDraft kind written draft → IfOk result (IsDraft kind (Not written)) }
 {
     match draft {
         Draft::Kept(cond, depth) if depth < MOST_DEEP => {
@@ -34,7 +34,7 @@ fn negated(alloc: Global, draft: Draft) -> Result<Draft, NoMemory>
 
 /// A draft under as many `not`s; 65 stands for more too.
 pub(crate) fn negated_by(alloc: Global, nots: u32, draft: Draft) -> Result<Draft, NoMemory>
-    ensures { (kind count : ℕ) (written : Written) → nots ≡ min count 65 → IsDraft kind written draft → IfOk result (IsDraft kind (drafts.negated_by count written)) }
+    ensures { (kind count : ℕ) (written : WrittenCondition) → nots ≡ min count 65 → IsDraft kind written draft → IfOk result (IsDraft kind (drafts.negated_by count written)) }
 {
     if nots > MOST_DEEP {
         return Ok(Draft::Lost);
@@ -60,7 +60,7 @@ fn joined_depth(left: u32, right: u32) -> Option<u32>
 
 /// Two drafts' `and`.
 pub(crate) fn both(alloc: Global, left: Draft, right: Draft) -> Result<Draft, NoMemory>
-    ensures { (kind : ℕ) (x y : Written) → IsDraft kind x left → IsDraft kind y right → IfOk result (IsDraft kind (And x y)) }
+    ensures { (kind : ℕ) (x y : WrittenCondition) → IsDraft kind x left → IsDraft kind y right → IfOk result (IsDraft kind (And x y)) }
 {
     let (Draft::Kept(x, left), Draft::Kept(y, right)) = (left, right) else {
         return Ok(Draft::Lost);
@@ -73,7 +73,7 @@ pub(crate) fn both(alloc: Global, left: Draft, right: Draft) -> Result<Draft, No
 
 /// Two drafts' `or`.
 pub(crate) fn either(alloc: Global, left: Draft, right: Draft) -> Result<Draft, NoMemory>
-    ensures { (kind : ℕ) (x y : Written) → IsDraft kind x left → IsDraft kind y right → IfOk result (IsDraft kind (Or x y)) }
+    ensures { (kind : ℕ) (x y : WrittenCondition) → IsDraft kind x left → IsDraft kind y right → IfOk result (IsDraft kind (Or x y)) }
 {
     let (Draft::Kept(x, left), Draft::Kept(y, right)) = (left, right) else {
         return Ok(Draft::Lost);

@@ -1,7 +1,7 @@
 //! What waits for its right side inside of a parenthesis.
 
 ghost use Rattle.std.specs.Prelude.{ℕ, List, ◌∷◌, Option, IfOk};
-ghost use Rattle.cond_syntax.specs.Written.{Written};
+ghost use Rattle.cond_syntax.specs.WrittenConditions.{WrittenCondition};
 ghost use Rattle.cond_text.specs.Machine.{Frame, Negation, AndLeft, unit_done, or_read};
 ghost use Rattle.cond_text.specs.Drafts.{IsDraft, IsLeft, both_of};
 ghost use Rattle.cond_text.specs.Levels.{IsLevel, IsConjunction, LeadsConjunction, LeadsLevel, IsWhole, outside};
@@ -34,7 +34,7 @@ pub(crate) struct Conjunction {
 
 /// A unit, or the `and` that it ends.
 fn with_left(alloc: Global, and_left: Option<Draft>, unit: Draft) -> Result<Draft, NoMemory>
-    ensures { (kind : ℕ) (left : Option Written) (written : Written) → IsLeft kind left and_left → IsDraft kind written unit → IfOk result (IsDraft kind (both_of left written)) }
+    ensures { (kind : ℕ) (left : Option WrittenCondition) (written : WrittenCondition) → IsLeft kind left and_left → IsDraft kind written unit → IfOk result (IsDraft kind (both_of left written)) }
 {
     match and_left {
         Some(left) => both(alloc, left, unit),
@@ -76,7 +76,7 @@ impl Level {
 
     /// The conjunction that the level's unit ends.
     pub(crate) fn after_unit(self, alloc: Global, unit: Draft) -> Result<Conjunction, NoMemory>
-        ensures { (kind : ℕ) (base : Option (List Frame)) (frames : List Frame) (written : Written) → IsLevel kind self base frames → IsDraft kind written unit → IfOk result (LeadsConjunction kind base (unit_done written frames)) }
+        ensures { (kind : ℕ) (base : Option (List Frame)) (frames : List Frame) (written : WrittenCondition) → IsLevel kind self base frames → IsDraft kind written unit → IfOk result (LeadsConjunction kind base (unit_done written frames)) }
     {
         let Level {
             or_left,
@@ -92,7 +92,7 @@ impl Level {
 impl Conjunction {
     /// The level after `and`.
     pub(crate) fn after_and(self) -> Level
-        ensures { (kind : ℕ) (base : Option (List Frame)) (last : Written) (frames : List Frame) → IsConjunction kind self base last frames → IsLevel kind result base (AndLeft last ∷ frames) }
+        ensures { (kind : ℕ) (base : Option (List Frame)) (last : WrittenCondition) (frames : List Frame) → IsConjunction kind self base last frames → IsLevel kind result base (AndLeft last ∷ frames) }
     {
         let Conjunction { or_left, last } = self;
         Level {
@@ -104,7 +104,7 @@ impl Conjunction {
 
     /// The condition that the conjunction ends.
     pub(crate) fn condition(self, alloc: Global) -> Result<Draft, NoMemory>
-        ensures { (kind : ℕ) (base : Option (List Frame)) (last : Written) (frames : List Frame) → IsConjunction kind self base last frames → IfOk result (IsWhole kind base last frames) }
+        ensures { (kind : ℕ) (base : Option (List Frame)) (last : WrittenCondition) (frames : List Frame) → IsConjunction kind self base last frames → IfOk result (IsWhole kind base last frames) }
     {
         let Conjunction { or_left, last } = self;
         match or_left {
@@ -115,7 +115,7 @@ impl Conjunction {
 
     /// The level after `or`.
     pub(crate) fn after_or(self, alloc: Global) -> Result<Level, NoMemory>
-        ensures { (kind : ℕ) (base : Option (List Frame)) (last : Written) (frames : List Frame) → IsConjunction kind self base last frames → IfOk result (LeadsLevel kind base (or_read last frames)) }
+        ensures { (kind : ℕ) (base : Option (List Frame)) (last : WrittenCondition) (frames : List Frame) → IsConjunction kind self base last frames → IfOk result (LeadsLevel kind base (or_read last frames)) }
     {
         let left = self.condition(alloc)?;
         Ok(Level {

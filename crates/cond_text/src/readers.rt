@@ -2,20 +2,20 @@
 
 ghost use Rattle.std.specs.Prelude.{ℕ, List, ◌∷◌, [], Option, reverse, IfOk};
 ghost use Rattle.gx_base.specs.Kinds.{kind_number};
-ghost use Rattle.cond_syntax.specs.Written.{Written};
+ghost use Rattle.cond_syntax.specs.WrittenConditions.{WrittenCondition};
 ghost use Rattle.cond_text.specs.Machine as machine;
 ghost use Rattle.cond_text.specs.Machine.{State, Frame, Operand, step, unit_done, close_read, whole};
 ghost use Rattle.cond_text.specs.CodeTokens.{token_seen};
 ghost use Rattle.cond_text.specs.Drafts.{IsDraft};
 ghost use Rattle.cond_text.specs.Levels.{IsLevel, IsConjunction};
 ghost use Rattle.cond_text.specs.Sources.{IsLater, IsStopped};
-ghost use Rattle.cond_text.specs.Readers.{AreOutside, IsRead, IsTaken, LeadsReader, LeadsUnit, IsEnded, IsReadWhole};
+ghost use Rattle.cond_text.specs.Readers.{AreOutside, HasReached, IsTaken, LeadsReader, LeadsUnit, IsEnded, IsReadWhole};
 
 use crate::drafts::Draft;
 use crate::levels::{Conjunction, Level};
 use crate::sources::{Next, Source, Stop};
 use crate::terms::read_comparison;
-use crate::tokens::Token;
+use crate::tokens::TextToken;
 use gx_base::{Cond, NoMemory};
 use std::alloc::Global;
 
@@ -39,7 +39,7 @@ struct Reader {
 
 impl Reader {
     fn new(alloc: Global) -> Self
-        ensures { (kind : ℕ) → IsRead kind result (Operand []) }
+        ensures { (kind : ℕ) → HasReached kind result (Operand []) }
     {
         Reader {
             alloc,
@@ -50,7 +50,7 @@ impl Reader {
 
     /// A unit is due inside of a level.
     fn due(alloc: Global, outer: Vec<Level>, level: Level) -> Self
-        ensures { (kind : ℕ) (base : Option (List Frame)) (frames : List Frame) → AreOutside kind (reverse outer.items) base → IsLevel kind level base frames → IsRead kind result (Operand frames) }
+        ensures { (kind : ℕ) (base : Option (List Frame)) (frames : List Frame) → AreOutside kind (reverse outer.items) base → IsLevel kind level base frames → HasReached kind result (Operand frames) }
     {
         Reader {
             alloc,
@@ -60,10 +60,10 @@ impl Reader {
     }
 
     /// What has been read after one more token, or after all of the comparison that it begins.
-    fn take<'a>(self, source: &mut Source<'a>, token: Token<'a>) -> Result<Self, Stop>
+    fn take<'a>(self, source: &mut Source<'a>, token: TextToken<'a>) -> Result<Self, Stop>
         ensures later { IsLater source.old source.new }
         ensures stopped { IsStopped source.new result }
-        ensures leads { (state : State) → IsRead (kind_number source.old.kind) self state → LeadsReader (kind_number source.old.kind) source.old source.new (step state (token_seen token.entry)) result }
+        ensures leads { (state : State) → HasReached (kind_number source.old.kind) self state → LeadsReader (kind_number source.old.kind) source.old source.new (step state (token_seen token.entry)) result }
     {
         let Reader {
             alloc,
@@ -81,7 +81,7 @@ impl Reader {
 
     /// The condition that has been read.
     fn end(self) -> Result<Draft, Stop>
-        ensures { (kind : ℕ) (state : State) → IsRead kind self state → IsEnded kind (whole state) result }
+        ensures { (kind : ℕ) (state : State) → HasReached kind self state → IsEnded kind (whole state) result }
     {
         let Reader {
             alloc,
@@ -106,7 +106,7 @@ fn after_unit(
     level: Level,
     unit: Draft,
 ) -> Result<Reader, NoMemory>
-    ensures { (kind : ℕ) (base : Option (List Frame)) (frames : List Frame) (written : Written) → AreOutside kind (reverse outer.items) base → IsLevel kind level base frames → IsDraft kind written unit → IfOk result (λ reader. IsRead kind reader (unit_done written frames)) }
+    ensures { (kind : ℕ) (base : Option (List Frame)) (frames : List Frame) (written : WrittenCondition) → AreOutside kind (reverse outer.items) base → IsLevel kind level base frames → IsDraft kind written unit → IfOk result (λ reader. HasReached kind reader (unit_done written frames)) }
 {
     let conjunction = level.after_unit(alloc, unit)?;
     Ok(Reader {
@@ -118,7 +118,7 @@ fn after_unit(
 
 /// A `(` has been read.
 fn after_open(alloc: Global, outer: Vec<Level>, level: Level) -> Result<Reader, NoMemory>
-    ensures { (kind : ℕ) (base : Option (List Frame)) (frames : List Frame) → AreOutside kind (reverse outer.items) base → IsLevel kind level base frames → IfOk result (λ reader. IsRead kind reader (Operand (machine.Group ∷ frames))) }
+    ensures { (kind : ℕ) (base : Option (List Frame)) (frames : List Frame) → AreOutside kind (reverse outer.items) base → IsLevel kind level base frames → IfOk result (λ reader. HasReached kind reader (Operand (machine.Group ∷ frames))) }
 {
     let mut outer = outer;
     outer.push(level)?;
@@ -131,7 +131,7 @@ fn after_close(
     outer: Vec<Level>,
     conjunction: Conjunction,
 ) -> Result<Option<Reader>, NoMemory>
-    ensures { (kind : ℕ) (base : Option (List Frame)) (last : Written) (frames : List Frame) → AreOutside kind (reverse outer.items) base → IsConjunction kind conjunction base last frames → IfOk result (IsTaken kind (close_read last frames)) }
+    ensures { (kind : ℕ) (base : Option (List Frame)) (last : WrittenCondition) (frames : List Frame) → AreOutside kind (reverse outer.items) base → IsConjunction kind conjunction base last frames → IfOk result (IsTaken kind (close_read last frames)) }
 {
     let mut outer = outer;
     let Some(level) = outer.pop() else {
@@ -148,15 +148,15 @@ fn take_due<'a>(
     outer: Vec<Level>,
     level: Level,
     source: &mut Source<'a>,
-    token: Token<'a>,
+    token: TextToken<'a>,
 ) -> Result<Reader, Stop>
     ensures later { IsLater source.old source.new }
     ensures stopped { IsStopped source.new result }
     ensures leads { (base : Option (List Frame)) (frames : List Frame) → AreOutside (kind_number source.old.kind) (reverse outer.items) base → IsLevel (kind_number source.old.kind) level base frames → LeadsReader (kind_number source.old.kind) source.old source.new (step (Operand frames) (token_seen token.entry)) result }
 {
     match token {
-        Token::NotKey => Ok(Reader::due(alloc, outer, level.after_not())),
-        Token::Open => Ok(after_open(alloc, outer, level)?),
+        TextToken::NotKey => Ok(Reader::due(alloc, outer, level.after_not())),
+        TextToken::Open => Ok(after_open(alloc, outer, level)?),
         _ => {
             let unit = read_unit(source, token)?;
             Ok(after_unit(alloc, outer, level, unit)?)
@@ -165,14 +165,14 @@ fn take_due<'a>(
 }
 
 /// Reads the unit that a token begins, no `not` and no parenthesis.
-fn read_unit<'a>(source: &mut Source<'a>, token: Token<'a>) -> Result<Draft, Stop>
+fn read_unit<'a>(source: &mut Source<'a>, token: TextToken<'a>) -> Result<Draft, Stop>
     ensures later { IsLater source.old source.new }
     ensures stopped { IsStopped source.new result }
     ensures leads { LeadsUnit source.old source.new (token_seen token.entry) result }
 {
     match token {
-        Token::TrueKey => Ok(Draft::Kept(Cond::True, 1)),
-        Token::FalseKey => Ok(Draft::Kept(Cond::False, 1)),
+        TextToken::TrueKey => Ok(Draft::Kept(Cond::True, 1)),
+        TextToken::FalseKey => Ok(Draft::Kept(Cond::False, 1)),
         _ => {
             let comparison = read_comparison(source, token)?;
             Ok(comparison.draft(source.kind()))
@@ -185,17 +185,17 @@ fn take_done(
     alloc: Global,
     outer: Vec<Level>,
     conjunction: Conjunction,
-    token: Token<'_>,
+    token: TextToken<'_>,
 ) -> Result<Option<Reader>, NoMemory>
-    ensures { (kind : ℕ) (base : Option (List Frame)) (last : Written) (frames : List Frame) → AreOutside kind (reverse outer.items) base → IsConjunction kind conjunction base last frames → IfOk result (IsTaken kind (step (machine.Done last frames) (token_seen token.entry))) }
+    ensures { (kind : ℕ) (base : Option (List Frame)) (last : WrittenCondition) (frames : List Frame) → AreOutside kind (reverse outer.items) base → IsConjunction kind conjunction base last frames → IfOk result (IsTaken kind (step (machine.Done last frames) (token_seen token.entry))) }
 {
     match token {
-        Token::AndKey => Ok(Some(Reader::due(alloc, outer, conjunction.after_and()))),
-        Token::OrKey => {
+        TextToken::AndKey => Ok(Some(Reader::due(alloc, outer, conjunction.after_and()))),
+        TextToken::OrKey => {
             let level = conjunction.after_or(alloc)?;
             Ok(Some(Reader::due(alloc, outer, level)))
         }
-        Token::Close => after_close(alloc, outer, conjunction),
+        TextToken::Close => after_close(alloc, outer, conjunction),
         _ => Ok(None),
     }
 }

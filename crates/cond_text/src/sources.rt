@@ -4,7 +4,7 @@ ghost use Rattle.std.specs.Prelude.{◌≡◌, ◌≤◌, IfSome};
 ghost use Rattle.cond_text.specs.CodeTokens.{token_seen};
 ghost use Rattle.cond_text.specs.TokenSteps.{opened_after, inside_after, knows};
 
-use crate::tokens::{Token, next_token};
+use crate::tokens::{TextToken, next_token};
 use crate::words::{part_named, term_named};
 use gx_base::{Kind, NoMemory};
 use std::alloc::AllocFailed;
@@ -29,7 +29,7 @@ pub(crate) struct Source<'a> {
 /// What is read next.
 #[derive(Drop)]
 pub(crate) enum Next<'a> {
-    Read(Token<'a>),
+    Read(TextToken<'a>),
     /// There is no further token.
     End,
     /// At the place where one parenthesis too many would be open.
@@ -67,26 +67,26 @@ impl<T: Drop> From<AllocFailed<T>> for Stop {
 }
 
 /// How many parentheses are open after a token, and none where one too many would be.
-fn opened_after(opened: u32, token: Token<'_>) -> Option<u32>
+fn opened_after(opened: u32, token: TextToken<'_>) -> Option<u32>
     requires { opened ≤ 64 }
     ensures next { result ≡ opened_after opened (token_seen token.entry) }
     ensures in_range { IfSome result (λ after. after ≤ 64) }
 {
     match token {
-        Token::Open if opened == MOST_OPEN => None,
-        Token::Open => Some(opened + 1),
-        Token::Close => Some(opened.saturating_sub(1)),
+        TextToken::Open if opened == MOST_OPEN => None,
+        TextToken::Open => Some(opened + 1),
+        TextToken::Close => Some(opened.saturating_sub(1)),
         _ => Some(opened),
     }
 }
 
 /// Whether the words after a token name what stands in `beyond`.
-fn inside_after(inside: bool, token: Token<'_>) -> bool
+fn inside_after(inside: bool, token: TextToken<'_>) -> bool
     ensures { result ≡ inside_after inside (token_seen token.entry) }
 {
     match token {
-        Token::BeyondKey => true,
-        Token::Close => false,
+        TextToken::BeyondKey => true,
+        TextToken::Close => false,
         _ => inside,
     }
 }
@@ -96,11 +96,11 @@ impl<'a> Source<'a> {
     ghost use Rattle.gx_base.specs.Kinds.{kind_number};
     ghost use Rattle.cond_syntax.specs.Tokens as plain;
     ghost use Rattle.cond_text.specs.Machine.{State, step, open_read, word_read, comma_read, close_due, whole};
-    ghost use Rattle.cond_text.specs.Sources.{IsStart, IsNext, IsLater, IsStopped, LeadsToken, Leads};
+    ghost use Rattle.cond_text.specs.Sources.{IsSourceStart, IsNext, IsLater, IsStopped, LeadsToken, Leads};
 
     /// The tokens of a text whose words are those of a kind's conditions.
     pub(crate) fn new(kind: Kind, text: &'a [u8]) -> Self
-        ensures { IsStart kind text.now result }
+        ensures { IsSourceStart kind text.now result }
     {
         Source {
             rest: text,
@@ -125,12 +125,12 @@ impl<'a> Source<'a> {
     }
 
     /// Whether a token is no word or a word that is known in the place that is read.
-    fn knows(&self, token: Token<'_>) -> bool
+    fn knows(&self, token: TextToken<'_>) -> bool
         ensures { result ≡ knows (kind_number self.now.kind) self.now.inside (token_seen token.entry) }
     {
         match token {
-            Token::Word(word) if self.inside => part_named(word).is_some(),
-            Token::Word(word) => term_named(self.kind, word).is_some(),
+            TextToken::Word(word) if self.inside => part_named(word).is_some(),
+            TextToken::Word(word) => term_named(self.kind, word).is_some(),
             _ => true,
         }
     }
@@ -154,7 +154,7 @@ impl<'a> Source<'a> {
     }
 
     /// Reads a token that has to be there.
-    pub(crate) fn token(&mut self) -> Result<Token<'a>, Stop>
+    pub(crate) fn token(&mut self) -> Result<TextToken<'a>, Stop>
         ensures later { IsLater self.old self.new }
         ensures stopped { IsStopped self.new result }
         ensures leads { (state : State) → LeadsToken self.old self.new state result }
@@ -173,7 +173,7 @@ impl<'a> Source<'a> {
         ensures leads { (state : State) (next : List ℕ → State) → (whole state ≡ None) → ((token : plain.Token) → step state token ≡ word_read next token) → Leads self.old self.new (Some state) (λ word. next word.now) result }
     {
         match self.token()? {
-            Token::Word(word) => Ok(word),
+            TextToken::Word(word) => Ok(word),
             _ => Err(Stop::Wrong),
         }
     }
@@ -185,7 +185,7 @@ impl<'a> Source<'a> {
         ensures leads { (state next : State) → (whole state ≡ None) → ((token : plain.Token) → step state token ≡ open_read next token) → Leads self.old self.new (Some state) (λ _. next) result }
     {
         match self.token()? {
-            Token::Open => Ok(()),
+            TextToken::Open => Ok(()),
             _ => Err(Stop::Wrong),
         }
     }
@@ -197,7 +197,7 @@ impl<'a> Source<'a> {
         ensures leads { (state next : State) → (whole state ≡ None) → ((token : plain.Token) → step state token ≡ comma_read next token) → Leads self.old self.new (Some state) (λ _. next) result }
     {
         match self.token()? {
-            Token::Comma => Ok(()),
+            TextToken::Comma => Ok(()),
             _ => Err(Stop::Wrong),
         }
     }
@@ -209,7 +209,7 @@ impl<'a> Source<'a> {
         ensures leads { (state next : State) → (whole state ≡ None) → ((token : plain.Token) → step state token ≡ close_due next token) → Leads self.old self.new (Some state) (λ _. next) result }
     {
         match self.token()? {
-            Token::Close => Ok(()),
+            TextToken::Close => Ok(()),
             _ => Err(Stop::Wrong),
         }
     }

@@ -56,8 +56,3 @@ fn read_lines(alloc: Global, bytes: &[u8], wanted: &[Kind]) -> Result<(Reader, u
     }
     Ok((reader, count))
 }
-
-#[cfg(test)]
-mod shipped;
-#[cfg(test)]
-mod tests;

@@ -2,7 +2,7 @@
 
 ghost use Rattle.std.specs.Prelude.{◌≡◌, List, Some};
 ghost use Rattle.gx_base.specs.Kinds.{kind_number};
-ghost use Rattle.cond_syntax.specs.Written.{WrittenTerm, term_of};
+ghost use Rattle.cond_syntax.specs.WrittenConditions.{WrittenTerm, term_of};
 ghost use Rattle.cond_text.specs.Machine as machine;
 ghost use Rattle.cond_text.specs.Machine.{Frame, Due, OpenDue, OperatorDue, TermDue, term_done, unit_done};
 ghost use Rattle.cond_text.specs.CodeTokens.{token_seen};
@@ -12,7 +12,7 @@ ghost use Rattle.cond_text.specs.Sources.{IsLater, IsStopped, Leads};
 
 use crate::drafts::Draft;
 use crate::sources::{Source, Stop};
-use crate::tokens::Token;
+use crate::tokens::TextToken;
 use crate::words::{part_named, term_named};
 use gx_base::{Cond, Kind, Term};
 
@@ -91,15 +91,15 @@ fn read_beyond<'a>(source: &mut Source<'a>) -> Result<Spelled<'a>, Stop>
 }
 
 /// Reads the term that a token begins.
-fn read_term<'a>(source: &mut Source<'a>, token: Token<'a>) -> Result<Spelled<'a>, Stop>
+fn read_term<'a>(source: &mut Source<'a>, token: TextToken<'a>) -> Result<Spelled<'a>, Stop>
     ensures later { IsLater source.old source.new }
     ensures stopped { IsStopped source.new result }
     ensures leads { (due : Due) (frames : List Frame) → Leads source.old source.new (term_begun due frames (token_seen token.entry)) (λ x. term_done (term_spelled x) due frames) result }
 {
     match token {
-        Token::Number(number) => Ok(Spelled::Number(number)),
-        Token::Word(word) => Ok(Spelled::Word(word)),
-        Token::BeyondKey => read_beyond(source),
+        TextToken::Number(number) => Ok(Spelled::Number(number)),
+        TextToken::Word(word) => Ok(Spelled::Word(word)),
+        TextToken::BeyondKey => read_beyond(source),
         _ => Err(Stop::Wrong),
     }
 }
@@ -110,10 +110,10 @@ fn read_relation(source: &mut Source<'_>) -> Result<Relation, Stop>
     ensures leads { (x : WrittenTerm) (frames : List Frame) → Leads source.old source.new (Some (OperatorDue x frames)) (λ relation. TermDue x (relation_spelled relation) frames) result }
 {
     match source.token()? {
-        Token::Equal => Ok(Relation::Equal),
-        Token::Differ => Ok(Relation::Differ),
-        Token::Less => Ok(Relation::Less),
-        Token::AtMost => Ok(Relation::AtMost),
+        TextToken::Equal => Ok(Relation::Equal),
+        TextToken::Differ => Ok(Relation::Differ),
+        TextToken::Less => Ok(Relation::Less),
+        TextToken::AtMost => Ok(Relation::AtMost),
         _ => Err(Stop::Wrong),
     }
 }
@@ -121,7 +121,7 @@ fn read_relation(source: &mut Source<'_>) -> Result<Relation, Stop>
 /// Reads the comparison that a token begins.
 pub(crate) fn read_comparison<'a>(
     source: &mut Source<'a>,
-    token: Token<'a>,
+    token: TextToken<'a>,
 ) -> Result<Comparison<'a>, Stop>
     ensures later { IsLater source.old source.new }
     ensures stopped { IsStopped source.new result }

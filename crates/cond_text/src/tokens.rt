@@ -13,7 +13,7 @@ use text_lines::{is_blank, number};
 
 /// A token of a line.
 #[derive(Clone, Copy, Drop)]
-pub enum Token<'a> {
+pub enum TextToken<'a> {
     /// A letter, and then letters and digits, that are no key word.
     Word(&'a [u8]),
     /// 1 to 18 digits, after a minus or without.
@@ -39,7 +39,7 @@ pub enum Token<'a> {
 
 /// The first token of a line and what follows it, and none where there is no token. Tokens are the longest that
 /// begin at their place.
-pub fn next_token(line: &[u8]) -> Option<(Token<'_>, &[u8])>
+pub fn next_token(line: &[u8]) -> Option<(TextToken<'_>, &[u8])>
     ensures tokens { MatchOption result (tokens_of line.now ≡ []) (λ x. tokens_of line.now ≡ token_seen x.0 ∷ tokens_of x.1.now) }
     ensures shorter { IfSome result (λ x. length x.1.now < length line.now) }
 {
@@ -105,11 +105,11 @@ fn joins_equal(sign: u8) -> bool
 }
 
 /// What a piece is.
-fn token_of(piece: &[u8]) -> Token<'_>
+fn token_of(piece: &[u8]) -> TextToken<'_>
     ensures { token_seen result ≡ plain.token_of piece.now }
 {
     let [first, more @ ..] = piece else {
-        return Token::Odd;
+        return TextToken::Odd;
     };
     if first.is_ascii_alphabetic() {
         word_token(piece)
@@ -123,69 +123,69 @@ fn token_of(piece: &[u8]) -> Token<'_>
 }
 
 /// What a piece of digits is.
-fn positive_token(digits: &[u8]) -> Token<'_>
+fn positive_token(digits: &[u8]) -> TextToken<'_>
     ensures { token_seen result ≡ plain.positive_token (number_of digits.now) }
 {
     match number(digits) {
-        Some(value) => Token::Number(value as i64),
-        None => Token::Odd,
+        Some(value) => TextToken::Number(value as i64),
+        None => TextToken::Odd,
     }
 }
 
 /// What a minus and then these digits are.
-fn negative_token(digits: &[u8]) -> Token<'_>
+fn negative_token(digits: &[u8]) -> TextToken<'_>
     ensures { token_seen result ≡ plain.negative_token (number_of digits.now) }
 {
     match number(digits) {
-        Some(value) => Token::Number(-(value as i64)),
-        None => Token::Odd,
+        Some(value) => TextToken::Number(-(value as i64)),
+        None => TextToken::Odd,
     }
 }
 
 /// What a piece of letters and digits is.
-fn word_token(word: &[u8]) -> Token<'_>
+fn word_token(word: &[u8]) -> TextToken<'_>
     ensures { token_seen result ≡ plain.word_token word.now }
 {
     if word == b"type".as_slice() {
-        Token::TypeKey
+        TextToken::TypeKey
     } else if word == b"or".as_slice() {
-        Token::OrKey
+        TextToken::OrKey
     } else if word == b"and".as_slice() {
-        Token::AndKey
+        TextToken::AndKey
     } else if word == b"not".as_slice() {
-        Token::NotKey
+        TextToken::NotKey
     } else if word == b"true".as_slice() {
-        Token::TrueKey
+        TextToken::TrueKey
     } else if word == b"false".as_slice() {
-        Token::FalseKey
+        TextToken::FalseKey
     } else if word == b"beyond".as_slice() {
-        Token::BeyondKey
+        TextToken::BeyondKey
     } else {
-        Token::Word(word)
+        TextToken::Word(word)
     }
 }
 
 /// What a piece is that begins with none of letters, digits and a minus.
-fn sign_token(sign: &[u8]) -> Token<'_>
+fn sign_token(sign: &[u8]) -> TextToken<'_>
     ensures { token_seen result ≡ plain.sign_token sign.now }
 {
     if sign == b"(".as_slice() {
-        Token::Open
+        TextToken::Open
     } else if sign == b")".as_slice() {
-        Token::Close
+        TextToken::Close
     } else if sign == b",".as_slice() {
-        Token::Comma
+        TextToken::Comma
     } else if sign == b":".as_slice() {
-        Token::Colon
+        TextToken::Colon
     } else if sign == b"=".as_slice() {
-        Token::Equal
+        TextToken::Equal
     } else if sign == b"!=".as_slice() {
-        Token::Differ
+        TextToken::Differ
     } else if sign == b"<".as_slice() {
-        Token::Less
+        TextToken::Less
     } else if sign == b"<=".as_slice() {
-        Token::AtMost
+        TextToken::AtMost
     } else {
-        Token::Odd
+        TextToken::Odd
     }
 }

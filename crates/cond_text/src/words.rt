@@ -4,7 +4,7 @@ ghost use Rattle.std.specs.Prelude.{◌≡◌, find, bytes_eq};
 ghost use Rattle.std.specs.List.{filter_map, range_with_len};
 ghost use Rattle.gx_base.specs.Kinds.{kind_number};
 ghost use Rattle.gx_base.specs.Methods as methods;
-ghost use Rattle.cond_syntax.specs.Written as written;
+ghost use Rattle.cond_syntax.specs.WrittenConditions as written;
 ghost use Rattle.cond_syntax.specs.TableTexts as texts;
 
 use gx_base::{Kind, Part, Side, Term, method_at, word_of};

@@ -13,6 +13,3 @@ mod uses;
 
 pub use shard::FlowShard;
 pub use uses::{EXCESS, FLOW, GAIN, HEIGHT, RELABEL, SEND};
-
-#[cfg(test)]
-mod tests;

@@ -30,13 +30,13 @@ abbrev pub held_under : (List ℕ → Option (List ℕ)) → Option (List ℕ) �
 held_under holds None = Some None
 held_under holds (Some name) = with_bytes (holds name)
 
-abbrev pub joined : Option (Option (List ℕ)) → Option (Option (List ℕ)) → Option (Option (List ℕ)) → Option Inputs
-joined (Some main) (Some conditions) (Some second) = Some (record { main = main; conditions = conditions; second = second })
-joined _ _ _ = None
+abbrev pub all_told : Option (Option (List ℕ)) → Option (Option (List ℕ)) → Option (Option (List ℕ)) → Option Inputs
+all_told (Some main) (Some conditions) (Some second) = Some (record { main = main; conditions = conditions; second = second })
+all_told _ _ _ = None
 
 -- what the files that a plan names hold, where that is told of each
 abbrev pub inputs_of : Planned → (List ℕ → Option (List ℕ)) → Option Inputs
-inputs_of plan holds = joined (held_under holds plan.main) (held_under holds plan.conditions) (held_under holds plan.second)
+inputs_of plan holds = all_told (held_under holds plan.main) (held_under holds plan.conditions) (held_under holds plan.second)
 
 -- what holds of a plan and its inputs, where there is a plan and these are told
 abbrev pub OnInputs : Option Planned → (List ℕ → Option (List ℕ)) → (Planned → Inputs → Type 0) → Type 0
@@ -49,17 +49,17 @@ OnInputs (Some plan) holds fact = IfSome (inputs_of plan holds) (fact plan)
 abbrev pub most_bytes : ℕ
 most_bytes = 67108864
 
-abbrev pub IsWithin : List ℕ → Type 0
-IsWithin bytes = length bytes ≤ most_bytes
+abbrev pub IsWithinLength : List ℕ → Type 0
+IsWithinLength bytes = length bytes ≤ most_bytes
 
 abbrev pub IsTooLong : List ℕ → Type 0
 IsTooLong bytes = most_bytes < length bytes
 
 -- no file has too many bytes
 pub record AreWithin (inputs : Inputs) : Type 0 where
-  pub main : IfSome inputs.main IsWithin
-  pub conditions : IfSome inputs.conditions IsWithin
-  pub second : IfSome inputs.second IsWithin
+  pub main : IfSome inputs.main IsWithinLength
+  pub conditions : IfSome inputs.conditions IsWithinLength
+  pub second : IfSome inputs.second IsWithinLength
 
 -- a file has too many bytes
 abbrev pub HasTooLong : Inputs → Type 0

@@ -4,6 +4,10 @@
 //! `specs/` has what they mean. Start at `specs/Steps.antt`, which says what each call does to the
 //! abstract state of an object, and `specs/Tables.antt`, which says when a table of conditions is valid.
 //! `laws` has what follows from these definitions alone, as that the inverse of a call takes it back.
+//!
+//! `object.apply(Call::new(1, 7, 0, 0, 0))?` does a call of a `SeqType` and gives its reply, and `object.undo(call, reply)`
+//! takes it back. `T::shipped(alloc, Kind::Set, Choice::Precise)?` is a table of conditions, `table.row(first, second)` the
+//! condition of two methods, and `eval(table.row(first, second), &early, &late, seen)` tells whether two calls commute.
 #![tactic(auto)]
 
 mod acts;
@@ -30,5 +34,5 @@ pub use items::Item;
 pub use kinds::{Choice, Kind, method_at, method_of, word_of};
 pub use memory::NoMemory;
 pub use sequential::SeqType;
-pub use spots::beyond;
+pub use spots::{beyond, distance, square};
 pub use tables::Table;

@@ -28,7 +28,8 @@ pub(crate) fn spot_of_reply(reply: Reply) -> Spot
     }
 }
 
-fn square(x: i64, y: i64) -> u128
+/// The squared difference of two coordinates.
+pub fn square(x: i64, y: i64) -> u128
     ensures value { result ≡ near.square x y }
     ensures fits { result ≤ near.far }
 {
@@ -37,7 +38,7 @@ fn square(x: i64, y: i64) -> u128
 }
 
 /// The squared distance, which stops at the greatest number of its type.
-fn distance(p: Spot, q: Spot) -> u128
+pub fn distance(p: Spot, q: Spot) -> u128
     ensures { result ≡ near.distance p q }
 {
     square(p.x, q.x).saturating_add(square(p.y, q.y))

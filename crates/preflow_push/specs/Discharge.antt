@@ -75,21 +75,21 @@ module _ (ends : Terminals) (u h : ℤ) where
       after_gains arc x e least onward)))
 
   -- after the height k of the other end
-  abbrev pub with_height : Touch → ℤ → ℤ → ℤ → Option ℤ → Onward → Plan
-  with_height arc r k e least onward =
+  abbrev pub after_height : Touch → ℤ → ℤ → ℤ → Option ℤ → Onward → Plan
+  after_height arc r k e least onward =
       if is_just_above h k then sending arc (int_min e r) e least onward
       else onward e (Some (lesser least k))
 
   -- after the flow f of the arc
-  abbrev pub with_flow : Touch → ℤ → ℤ → Option ℤ → Onward → Plan
-  with_flow arc f e least onward =
+  abbrev pub after_flow : Touch → ℤ → ℤ → Option ℤ → Onward → Plan
+  after_flow arc f e least onward =
       if int_le (residual arc f) (pos 0) then onward e least
-      else Call (room_of arc.other) (height arc.other) (λ reply. with_height arc (residual arc f) reply.p e least onward)
+      else Call (room_of arc.other) (height arc.other) (λ reply. after_height arc (residual arc f) reply.p e least onward)
 
   -- the arcs one after another, with the excess e, and then the node's end
   abbrev pub along : List Touch → Onward
   along [] e least = rise u least
-  along (arc ∷ arcs) e least = Call (room_of arc.number) (flow arc.number) (λ reply. with_flow arc reply.p e least (along arcs))
+  along (arc ∷ arcs) e least = Call (room_of arc.number) (flow arc.number) (λ reply. after_flow arc reply.p e least (along arcs))
 
 abbrev pub with_excess : Terminals → ℤ → List Touch → ℤ → Plan
 with_excess ends u arcs e =

@@ -38,12 +38,16 @@ pub record IsNode (nodes id : ℕ) : Type 0 where
   pub from_one : 1 ≤ id
   pub within : id ≤ nodes
 
--- an arc joins two different nodes, and its capacity is at most a thousand million
+-- the largest capacity: a thousand million
+abbrev pub most_capacity : ℕ
+most_capacity = 1000000000
+
+-- an arc joins two different nodes, and its capacity is at most the largest one
 pub record Joins (nodes from to cap : ℕ) : Type 0 where
   pub start : IsNode nodes from
   pub end : IsNode nodes to
   pub differ : from ≢ to
-  pub small : cap ≤ 1000000000
+  pub small : cap ≤ most_capacity
 
 -- what may stand after the line that says how many nodes there are
 abbrev pub IsOf : ℕ → Said → Type 0

@@ -17,7 +17,7 @@ abbrev pub most_arcs : ℕ
 most_arcs = 400000
 
 -- the limits, which are no part of the grammar
-pub record IsWithin (net : Net) : Type 0 where
+pub record IsWithinLimits (net : Net) : Type 0 where
   pub nodes : net.nodes ≤ℤ pos most_nodes
   pub arcs : length net.arcs ≤ most_arcs
 
@@ -30,7 +30,7 @@ Passes net what = ⊥
 -- the bytes are a flow file of this network, which may be read
 pub record IsReadable (bytes : List ℕ) (net : Net) : Type 0 where
   pub is_file : IsFlowFile bytes net
-  pub within : IsWithin net
+  pub within : IsWithinLimits net
 
 -- the bytes are a flow file, and this is the first limit that its network passes
 pub record IsTooLarge (bytes : List ℕ) (what : What) : Type 0 where

@@ -10,24 +10,24 @@ use Rattle.preflow_push.specs.declared.flow_lines.Said.{Said}
 use Rattle.preflow_push.specs.declared.flow_lines.Said.TheVariants.{Nothing, Problem, Source, Sink, Arc, Wrong}
 use Rattle.preflow_push.specs.declared.reading.Seen.{Seen}
 use Rattle.preflow_push.specs.FlowLines.{said_by}
-use Rattle.preflow_push.specs.FlowFiles.{new_arc}
+use Rattle.preflow_push.specs.FlowFiles.{most_capacity, new_arc}
 use Rattle.preflow_push.specs.Networks.{Net, view}
 
 -- what the lines said so far: the problem (nodes and arcs), the terminals and the arcs
-pub record State : Type 0 where
+pub record FileState : Type 0 where
   pub problem : Option (ℕ × ℕ)
   pub source : Option ℕ
   pub sink : Option ℕ
   pub arcs : List arcs.Arc
 
-abbrev pub state : Seen → State
+abbrev pub state : Seen → FileState
 state seen = record { problem = seen.problem; source = seen.source; sink = seen.sink; arcs = seen.arcs.items }
 
-abbrev pub at_first : State
+abbrev pub at_first : FileState
 at_first = record { problem = None; source = None; sink = None; arcs = [] }
 
-abbrev pub is_node : ℕ → ℕ → Bool
-is_node nodes id = nat_le 1 id && nat_le id nodes
+abbrev pub is_node_number : ℕ → ℕ → Bool
+is_node_number nodes id = nat_le 1 id && nat_le id nodes
 
 -- the other terminal isn't this node
 abbrev pub is_free : ℕ → Option ℕ → Bool
@@ -35,21 +35,21 @@ is_free id None = true
 is_free id (Some other) = not (id == other)
 
 -- whether a terminal may be told, where this one and the other may have been told before
-abbrev pub may_stand : Option (ℕ × ℕ) → Option ℕ → Option ℕ → ℕ → Bool
-may_stand None this other id = false
-may_stand (Some p) this other id = is_none this && is_node p.0 id && is_free id other
+abbrev pub may_be_terminal : Option (ℕ × ℕ) → Option ℕ → Option ℕ → ℕ → Bool
+may_be_terminal None this other id = false
+may_be_terminal (Some p) this other id = is_none this && is_node_number p.0 id && is_free id other
 
 -- whether an arc may be told after so many
 abbrev pub may_go : Option (ℕ × ℕ) → ℕ → ℕ → ℕ → ℕ → Bool
 may_go None before from to cap = false
-may_go (Some p) before from to cap = nat_lt before p.1 && is_node p.0 from && is_node p.0 to && not (from == to) && nat_le cap 1000000000
+may_go (Some p) before from to cap = nat_lt before p.1 && is_node_number p.0 from && is_node_number p.0 to && not (from == to) && nat_le cap most_capacity
 
 -- a line more, or nothing where it can't stand there
-abbrev pub step : Said → State → Option State
+abbrev pub step : Said → FileState → Option FileState
 step Nothing s = Some s
 step (Problem nodes arcs) s = if is_none s.problem && nat_le 2 nodes then Some (record s { problem = Some (nodes, arcs) }) else None
-step (Source id) s = if may_stand s.problem s.source s.sink id then Some (record s { source = Some id }) else None
-step (Sink id) s = if may_stand s.problem s.sink s.source id then Some (record s { sink = Some id }) else None
+step (Source id) s = if may_be_terminal s.problem s.source s.sink id then Some (record s { source = Some id }) else None
+step (Sink id) s = if may_be_terminal s.problem s.sink s.source id then Some (record s { sink = Some id }) else None
 step (Arc from to cap) s = if may_go s.problem (length s.arcs) from to cap then Some (record s { arcs = s.arcs ++ new_arc from to cap ∷ [] }) else None
 step Wrong s = None
 
@@ -60,7 +60,7 @@ whole_of (Some p) (Some source) None arcs = None
 whole_of (Some p) None sink arcs = None
 whole_of None source sink arcs = None
 
-abbrev pub whole : State → Option Net
+abbrev pub whole : FileState → Option Net
 whole s = whole_of s.problem s.source s.sink s.arcs
 
 -- the network that lines tell from here on, or the line of the first fault; the next line has the number k
@@ -68,11 +68,11 @@ abbrev pub ended : Option Net → ℕ → Result Net ℕ
 ended None k = Err k
 ended (Some net) k = Ok net
 
-abbrev pub then_read : Option State → ℕ → (State → Result Net ℕ) → Result Net ℕ
+abbrev pub then_read : Option FileState → ℕ → (FileState → Result Net ℕ) → Result Net ℕ
 then_read None k go_on = Err k
 then_read (Some s) k go_on = go_on s
 
-abbrev pub read_from : List Said → ℕ → State → Result Net ℕ
+abbrev pub read_from : List Said → ℕ → FileState → Result Net ℕ
 read_from [] k s = ended (whole s) k
 read_from (said ∷ saids) k s = then_read (step said s) k (read_from saids (k + 1))
 
@@ -88,9 +88,9 @@ Fails (faults.Line k) read = read ≡ Err k
 Fails (faults.Large what) read = ⊥
 Fails faults.NoMemory read = ⊤
 
-abbrev pub Gives : Result Network InputFault → Result Net ℕ → Type 0
-Gives (Ok net) read = read ≡ Ok (view net)
-Gives (Err e) read = Fails e read
+abbrev pub AnswersReading : Result Network InputFault → Result Net ℕ → Type 0
+AnswersReading (Ok net) read = read ≡ Ok (view net)
+AnswersReading (Err e) read = Fails e read
 
-abbrev pub AreSmall : State → Type 0
+abbrev pub AreSmall : FileState → Type 0
 AreSmall s = IfSome s.problem (λ p. p.0 < 10 ^ 18) × IfSome s.source (λ id. id < 10 ^ 18) × IfSome s.sink (λ id. id < 10 ^ 18)

@@ -7,7 +7,7 @@ use Rattle.preflow_push.specs.declared.stages.Stage.{Stage}
 use Rattle.preflow_push.specs.declared.stages.Walk.{Walk}
 use Rattle.preflow_push.specs.declared.stages.Stage.TheVariants as stages
 use Rattle.preflow_push.specs.FlowCalls.{room_of, gain, minus}
-use Rattle.preflow_push.specs.Discharge.{Terminals, Onward, node_item, node_plan, with_excess, along, with_flow, with_height, after_gains, unless_spent}
+use Rattle.preflow_push.specs.Discharge.{Terminals, Onward, node_item, node_plan, with_excess, along, after_flow, after_height, after_gains, unless_spent}
 
 -- a reply that was due and didn't come counts as four zeros
 abbrev pub value_of_reply : Option Reply → ℤ
@@ -46,8 +46,8 @@ module _ (ends : Terminals) (lists : ℕ → List Touch) where
   rest_at (stages.Begin node list) value = node_plan ends node (lists list)
   rest_at (stages.AfterExcess node list) value = with_excess ends node (lists list) value
   rest_at (stages.AfterHeight node list e) value = along ends node value (lists list) e None
-  rest_at (stages.AfterFlow walk arc) value = with_flow ends walk.node walk.height arc value walk.excess walk.least (onward walk)
-  rest_at (stages.AfterOther walk arc r) value = with_height ends walk.node walk.height arc r value walk.excess walk.least (onward walk)
+  rest_at (stages.AfterFlow walk arc) value = after_flow ends walk.node walk.height arc value walk.excess walk.least (onward walk)
+  rest_at (stages.AfterOther walk arc r) value = after_height ends walk.node walk.height arc r value walk.excess walk.least (onward walk)
   rest_at (stages.AfterSend walk arc x) value =
       Call (room_of walk.node) (gain walk.node (minus x)) (λ _.
       Call (room_of arc.other) (gain arc.other x) (λ _.

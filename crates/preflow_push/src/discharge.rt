@@ -92,7 +92,7 @@ impl Discharge {
         })
     }
 
-    fn is_node(&self, item: Item) -> bool
+    fn names_node(&self, item: Item) -> bool
         ensures { result ≡ names_node self.now.nodes item }
     {
         match item {
@@ -145,7 +145,7 @@ impl Discharge {
     }
 
     fn take_flow(&self, walk: Walk, arc: Touch, flow: i64) -> (Act, Stage)
-        ensures { MovesTo self.now (discharge.with_flow (ends_of self.now) walk.node walk.height arc flow walk.excess walk.least (onward_of self.now walk)) (acts_onward self.now walk + 5) result.0 result.1 }
+        ensures { MovesTo self.now (discharge.after_flow (ends_of self.now) walk.node walk.height arc flow walk.excess walk.least (onward_of self.now walk)) (acts_onward self.now walk + 5) result.0 result.1 }
     {
         let residual = residual(arc, flow);
         if residual <= 0 {
@@ -162,7 +162,7 @@ impl Discharge {
     }
 
     fn take_height(&self, mut walk: Walk, arc: Touch, residual: i64, height: i64) -> (Act, Stage)
-        ensures { MovesTo self.now (discharge.with_height (ends_of self.now) walk.node walk.height arc residual height walk.excess walk.least (onward_of self.now walk)) (acts_onward self.now walk + 4) result.0 result.1 }
+        ensures { MovesTo self.now (discharge.after_height (ends_of self.now) walk.node walk.height arc residual height walk.excess walk.least (onward_of self.now walk)) (acts_onward self.now walk + 4) result.0 result.1 }
     {
         if !is_just_above(walk.height, height) {
             walk.least = Some(lesser(walk.least, height));
@@ -264,7 +264,7 @@ impl Operator for Discharge {
     }
 
     fn begin(&self, item: Item) -> Stage {
-        if !self.is_node(item) {
+        if !self.names_node(item) {
             return Stage::End;
         }
         Stage::Begin {

@@ -1,8 +1,9 @@
 //! Preflow-push on a network: the file that the network is read from, the work done for a node, where it starts, and
 //! the report.
 //!
-//! `read_max` gives a `Network`, `start` the shards and the items that are ready, `Discharge` is the operator that a
-//! runner is given with them, and `report` writes what it left.
+//! `let net = read_max(alloc, bytes)?;` reads a network, `let (shards, ready) = start(alloc, &net)?;` makes the objects and
+//! the items that are ready, and `Discharge::new(alloc, &net)?` is the operator: `run_serially` of `commit_book` takes these.
+//! `report(alloc, &net, order, &shards)?` writes what the run left.
 //!
 //! `specs/Networks.antt` has what a network is, `specs/FlowFiles.antt` which bytes are a flow file, of which network,
 //! and which line of others is told, `specs/FlowLimits.antt` which of them are too large, and `specs/Discharge.antt`
@@ -19,8 +20,6 @@ mod reports;
 mod rooms;
 mod stages;
 mod starts;
-#[cfg(test)]
-mod tests;
 mod touches;
 
 pub use discharge::Discharge;

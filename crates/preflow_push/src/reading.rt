@@ -5,7 +5,7 @@ ghost use Rattle.gx_base.specs.declared.inputs.InputFault as fault;
 ghost use Rattle.gx_base.specs.declared.inputs.InputFault.TheVariants as faults;
 ghost use Rattle.preflow_push.specs.FlowLimits.{CallsFor, answer_of, sized};
 ghost use Rattle.preflow_push.specs.FlowLines.{IsSmall};
-ghost use Rattle.preflow_push.specs.FlowReading.{state, at_first, step, whole, AreSmall, flow_of, Gives, ended, is_node, is_free, may_stand, may_go};
+ghost use Rattle.preflow_push.specs.FlowReading.{state, at_first, step, whole, AreSmall, flow_of, AnswersReading, ended, is_node_number, is_free, may_be_terminal, may_go};
 ghost use Rattle.preflow_push.specs.Networks.{Net, view};
 
 use super::flow_lines::{Said, said_by};
@@ -18,7 +18,7 @@ const MOST_NODES: i64 = 100_000;
 
 const MOST_ARCS: usize = 400_000;
 
-const MOST_CAP: u64 = 1_000_000_000;
+const MOST_CAPACITY: u64 = 1_000_000_000;
 
 /// The network of a flow file. A fault tells the first line that can't stand where it is, or one more than the last
 /// line where something is missing; a flow file that passes a limit is too large, by the first that it passes.
@@ -46,7 +46,7 @@ fn within_limits(net: Network) -> Result<Network, InputFault>
 
 /// Reads line by line, whatever the limits.
 fn read_lines(alloc: Global, bytes: &[u8]) -> Result<Network, InputFault>
-    ensures { Gives result (flow_of bytes.now) }
+    ensures { AnswersReading result (flow_of bytes.now) }
 {
     let mut seen = Seen::new(alloc);
     let mut rest = bytes;
@@ -106,14 +106,14 @@ impl Seen {
                 Ok(false)
             }
             Said::Source(id) => {
-                if may_stand(self.problem, self.source, self.sink, id) {
+                if may_be_terminal(self.problem, self.source, self.sink, id) {
                     self.source = Some(id);
                     return Ok(true);
                 }
                 Ok(false)
             }
             Said::Sink(id) => {
-                if may_stand(self.problem, self.sink, self.source, id) {
+                if may_be_terminal(self.problem, self.sink, self.source, id) {
                     self.sink = Some(id);
                     return Ok(true);
                 }
@@ -136,7 +136,7 @@ impl Seen {
     /// The network, where nothing is missing at the end, whose line is given.
     fn finish(self, end: u64) -> Result<Network, InputFault>
         requires { AreSmall (state self) }
-        ensures { Gives result (ended (whole (state self)) end) }
+        ensures { AnswersReading result (ended (whole (state self)) end) }
     {
         match (self.problem, self.source, self.sink) {
             (Some((nodes, arcs)), Some(source), Some(sink)) if self.arcs.len() as u64 == arcs => {
@@ -153,12 +153,17 @@ impl Seen {
 }
 
 /// Whether a terminal may be told, where this one and the other may have been told before.
-fn may_stand(problem: Option<(u64, u64)>, this: Option<u64>, other: Option<u64>, id: u64) -> bool
-    ensures { result ≡ may_stand problem this other id }
+fn may_be_terminal(
+    problem: Option<(u64, u64)>,
+    this: Option<u64>,
+    other: Option<u64>,
+    id: u64,
+) -> bool
+    ensures { result ≡ may_be_terminal problem this other id }
 {
     match problem {
         None => false,
-        Some((nodes, _)) => this.is_none() && is_node(nodes, id) && is_free(id, other),
+        Some((nodes, _)) => this.is_none() && is_node_number(nodes, id) && is_free(id, other),
     }
 }
 
@@ -170,16 +175,16 @@ fn may_go(problem: Option<(u64, u64)>, before: usize, from: u64, to: u64, cap: u
         None => false,
         Some((nodes, arcs)) => {
             (before as u64) < arcs
-                && is_node(nodes, from)
-                && is_node(nodes, to)
+                && is_node_number(nodes, from)
+                && is_node_number(nodes, to)
                 && from != to
-                && cap <= MOST_CAP
+                && cap <= MOST_CAPACITY
         }
     }
 }
 
-fn is_node(nodes: u64, id: u64) -> bool
-    ensures { result ≡ is_node nodes id }
+fn is_node_number(nodes: u64, id: u64) -> bool
+    ensures { result ≡ is_node_number nodes id }
 {
     1 <= id && id <= nodes
 }
@@ -193,6 +198,3 @@ fn is_free(id: u64, other: Option<u64>) -> bool
         Some(other) => id != other,
     }
 }
-
-#[cfg(test)]
-mod tests;

@@ -12,16 +12,16 @@ use Rattle.gx_base.specs.ShippedTables.{rows_chosen}
 use Rattle.kind_tables.specs.FlowTables.{flow_tables}
 use Rattle.preflow_push.specs.Discharge.{discharge_operator}
 use Rattle.speculation.specs.ScheduledRuns.{begun, scheduled, drain, drain_worker, drained}
-use Rattle.speculation_cases.specs.Beginnings.{Written, HasPreciseRows}
+use Rattle.speculation_cases.specs.Beginnings.{WrittenNumbers, HasPreciseRows}
 use Rattle.speculation_cases.specs.Diamond.{net, first_numbers, diamond, alternating, turns_of_both, turns_with_drain}
 use Rattle.speculation_cases.proofs.WrittenRows.{reads}
 use Rattle.speculation_cases.proofs.GivenTurns.{Given, AllRight, given_run}
 
 -- the rooms of nodes 2 and 3 once these have risen
-abbrev risen_2 : Written
+abbrev risen_2 : WrittenNumbers
 risen_2 = ((0, pos 2), pos 1) ∷ first_numbers 2
 
-abbrev risen_3 : Written
+abbrev risen_3 : WrittenNumbers
 risen_3 = ((0, pos 3), pos 1) ∷ first_numbers 3
 
 -- ---- the turns, with the replies to their calls

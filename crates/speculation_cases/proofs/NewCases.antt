@@ -20,25 +20,25 @@ use Rattle.shared_sets.specs.CellsTables.{cells_tables}
 use Rattle.shared_sets.specs.SuitedTables.{cells_tables-SuitKind}
 use Rattle.preflow_push.specs.Discharge.{discharge_operator}
 use Rattle.speculation.specs.Premises.{IsNewGate, IsNew}
-use Rattle.speculation_cases.specs.Beginnings.{Written, written, HasPreciseRows, new_gate}
+use Rattle.speculation_cases.specs.Beginnings.{WrittenNumbers, written, HasPreciseRows, new_gate}
 use Rattle.speculation_cases.specs.Diamond.{net, first_numbers, diamond}
 use Rattle.speculation_cases.specs.SmallConflict.{setters, two_setters}
 use Rattle.speculation_cases.specs.NamedReader.{setter_and_reader, one_setter}
 
 -- the numbers have 64 bits
-abbrev pub HaveBits : Written → Type 0
+abbrev pub HaveBits : WrittenNumbers → Type 0
 HaveBits [] = ⊤
 HaveBits (w ∷ ws) = FitsSigned w64 w.1 × HaveBits ws
 
-holds_numbers : (kind : Kind) (ws : Written) → HaveBits ws → HoldsNumbers (written kind ws)
+holds_numbers : (kind : Kind) (ws : WrittenNumbers) → HaveBits ws → HoldsNumbers (written kind ws)
 holds_numbers kind [] h = λ key. subst IsNumberRow (sym (finite.get-empty {X = List ℤ} row_cmp key)) tt
 holds_numbers kind (w ∷ ws) h = with_number-HoldsNumbers (written kind ws) w.0 w.1 h.0 (holds_numbers kind ws h.1)
 
-kind_is : (kind : Kind) (ws : Written) → (written kind ws).kind ≡ kind_number kind
+kind_is : (kind : Kind) (ws : WrittenNumbers) → (written kind ws).kind ≡ kind_number kind
 kind_is kind [] = refl
 kind_is kind (w ∷ ws) = kind_is kind ws
 
-begins : (kind : Kind) (tables : KindTables) (table : RowMap) (ws : Written) → SuitKind (kind_number kind) tables → HasPreciseRows tables table → Holds (kind_number kind) (written kind ws) → IsNewGate (new_gate kind table ws)
+begins : (kind : Kind) (tables : KindTables) (table : RowMap) (ws : WrittenNumbers) → SuitKind (kind_number kind) tables → HasPreciseRows tables table → Holds (kind_number kind) (written kind ws) → IsNewGate (new_gate kind table ws)
 begins kind tables table ws suit h s =
     let rows : row_of table ≡ rows_chosen tables Precise = λ i first second. h first second i in
     record {

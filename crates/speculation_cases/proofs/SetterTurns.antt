@@ -11,7 +11,7 @@ use Rattle.gx_base.specs.Worklists.{item_cmp, has_item, without_item, with_item,
 use Rattle.gx_base.specs.ShippedTables.{rows_chosen}
 use Rattle.shared_sets.specs.CellsTables.{cells_tables}
 use Rattle.speculation.specs.ScheduledRuns.{begun, scheduled}
-use Rattle.speculation_cases.specs.Beginnings.{Written, HasPreciseRows}
+use Rattle.speculation_cases.specs.Beginnings.{WrittenNumbers, HasPreciseRows}
 use Rattle.speculation_cases.specs.SmallConflict.{setters, two_setters, setters_schedule, turns_of_setters}
 use Rattle.speculation_cases.proofs.WrittenRows.{reads}
 use Rattle.speculation_cases.proofs.GivenTurns.{Given, AllRight, given_run}
@@ -20,7 +20,7 @@ abbrev given_turn : ℕ → Option ℕ → ℤ → Given
 given_turn worker way x = record { worker = worker; way = way; reply = number_reply x }
 
 -- the cell once it was set to 1
-abbrev set_1 : Written
+abbrev set_1 : WrittenNumbers
 set_1 = ((0, pos 0), pos 1) ∷ []
 
 abbrev cell_rows : Rows

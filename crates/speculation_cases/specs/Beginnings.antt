@@ -16,10 +16,10 @@ use Rattle.speculation.specs.Sessions.{Session, Idle}
 use Rattle.speculation.specs.Machines.{Machine}
 
 -- numbers in the rows of a state, the last one written first
-abbrev pub Written : Type 0
-Written = List ((ℕ × ℤ) × ℤ)
+abbrev pub WrittenNumbers : Type 0
+WrittenNumbers = List ((ℕ × ℤ) × ℤ)
 
-abbrev pub written : Kind → Written → State
+abbrev pub written : Kind → WrittenNumbers → State
 written kind [] = record { kind = kind_number kind; rows = finite.empty }
 written kind (w ∷ ws) = with_number (written kind ws) w.0 w.1
 
@@ -27,7 +27,7 @@ written kind (w ∷ ws) = with_number (written kind ws) w.0 w.1
 abbrev pub HasPreciseRows : KindTables → RowMap → Type 0
 HasPreciseRows tables table = (first second : ℕ) → row_of table first second ≡ rows_chosen tables Precise first second
 
-abbrev pub new_gate : Kind → RowMap → Written → GateView
+abbrev pub new_gate : Kind → RowMap → WrittenNumbers → GateView
 new_gate kind table ws = record { kind = kind_number kind; table = table; state = written kind ws; done = []; live = []; mark = 0 }
 
 abbrev pub at_rest : Session

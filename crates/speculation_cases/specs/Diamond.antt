@@ -10,7 +10,7 @@ use Rattle.preflow_push.specs.FlowCalls.{height, relabel, excess, gain, flow, se
 use Rattle.speculation.specs.Events.{Turn}
 use Rattle.speculation.specs.Events as event
 use Rattle.speculation.specs.Machines.{Machine}
-use Rattle.speculation_cases.specs.Beginnings.{Written, new_gate, starting, turn_0, turn_1}
+use Rattle.speculation_cases.specs.Beginnings.{WrittenNumbers, new_gate, starting, turn_0, turn_1}
 
 -- node 1 is the source, node 4 the sink, and two ways of two arcs lead from the one to the other
 abbrev pub arc : ℕ → ℕ → Arc
@@ -20,7 +20,7 @@ abbrev pub net : Net
 net = record { nodes = pos 4; source = pos 1; sink = pos 4; arcs = arc 1 2 ∷ arc 1 3 ∷ arc 2 4 ∷ arc 3 4 ∷ [] }
 
 -- the source is as high as there are nodes, and both arcs out of it are full
-abbrev pub first_numbers : ℕ → Written
+abbrev pub first_numbers : ℕ → WrittenNumbers
 first_numbers (suc zero) = ((1, pos 1), negsuc 1) ∷ ((2, pos 1), pos 1) ∷ ((0, pos 1), pos 4) ∷ []
 first_numbers (suc (suc zero)) = ((2, pos 2), pos 1) ∷ ((1, pos 2), pos 1) ∷ []
 first_numbers (suc (suc (suc zero))) = ((1, pos 3), pos 1) ∷ []

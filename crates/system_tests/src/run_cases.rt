@@ -8,11 +8,28 @@ use gx_io::{MemFiles, MemSink};
 use std::alloc::Global;
 use std::test::Fail;
 
-const FOUR_NODES: &str =
-    "c example\np max 4 5\nn 1 s\nn 4 t\na 1 2 3\na 1 3 2\na 2 4 2\na 3 4 3\na 2 3 5\n";
+const FOUR_NODES: &str = "c example
+p max 4 5
+n 1 s
+n 4 t
+a 1 2 3
+a 1 3 2
+a 2 4 2
+a 3 4 3
+a 2 3 5
+";
 
-const FOUR_NODES_REPORT: &str =
-    "c i 2\nc i 2\nc i 3\nc i 3\ns 5\nf 1 2 3\nf 1 3 2\nf 2 4 2\nf 3 4 3\nf 2 3 1\n";
+const FOUR_NODES_REPORT: &str = "c i 2
+c i 2
+c i 3
+c i 3
+s 5
+f 1 2 3
+f 1 3 2
+f 2 4 2
+f 3 4 3
+f 2 3 1
+";
 
 /// How a run ended, and what it wrote.
 #[derive(Drop)]
@@ -75,41 +92,72 @@ fn four_node_network(rt: HostRuntime) -> Result<(), Fail> {
     Ok(())
 }
 
-#[test]
-fn no_way_to_the_sink(rt: HostRuntime) -> Result<(), Fail> {
-    let alloc = rt.alloc();
-    assert!(rt;
-        reports(
-            alloc,
-            "p max 3 1\nn 1 s\nn 3 t\na 1 2 4\n",
-            "c i 2\nc i 2\ns 0\nf 1 2 0\n",
-        )?
-    );
-    assert!(rt; reports(alloc, "p max 2 0\nn 1 s\nn 2 t\n", "s 0\n")?);
-    Ok(())
-}
+/// Networks, each with its report.
+const NETWORKS: [(&str, &str); 4] = [
+    // no way to the sink
+    (
+        "p max 3 1
+n 1 s
+n 3 t
+a 1 2 4
+",
+        "c i 2
+c i 2
+s 0
+f 1 2 0
+",
+    ),
+    (
+        "p max 2 0
+n 1 s
+n 2 t
+",
+        "s 0
+",
+    ),
+    // parallel arcs
+    (
+        "p max 2 4
+n 1 s
+n 2 t
+a 1 2 3
+a 1 2 4
+a 2 1 5
+a 1 2 0
+",
+        "s 7
+f 1 2 3
+f 1 2 4
+f 2 1 0
+f 1 2 0
+",
+    ),
+    // large capacities
+    (
+        "p max 3 4
+n 1 s
+n 3 t
+a 1 2 1000000000
+a 1 2 1000000000
+a 2 3 1000000000
+a 2 3 1000000000
+",
+        "c i 2
+c i 2
+s 2000000000
+f 1 2 1000000000
+f 1 2 1000000000
+f 2 3 1000000000
+f 2 3 1000000000
+",
+    ),
+];
 
 #[test]
-fn parallel_arcs(rt: HostRuntime) -> Result<(), Fail> {
-    assert!(rt;
-        reports(
-            rt.alloc(),
-            "p max 2 4\nn 1 s\nn 2 t\na 1 2 3\na 1 2 4\na 2 1 5\na 1 2 0\n",
-            "s 7\nf 1 2 3\nf 1 2 4\nf 2 1 0\nf 1 2 0\n",
-        )?
-    );
-    Ok(())
-}
-
-#[test]
-fn large_capacities(rt: HostRuntime) -> Result<(), Fail> {
-    assert!(rt;
-        reports(
-            rt.alloc(),
-            "p max 3 4\nn 1 s\nn 3 t\na 1 2 1000000000\na 1 2 1000000000\na 2 3 1000000000\na 2 3 1000000000\n",
-            "c i 2\nc i 2\ns 2000000000\nf 1 2 1000000000\nf 1 2 1000000000\nf 2 3 1000000000\nf 2 3 1000000000\n",
-        )?
-    );
+fn small_networks_have_their_reports(rt: HostRuntime) -> Result<(), Fail> {
+    for (text, report) in NETWORKS {
+        assert!(rt; reports(rt.alloc(), text, report)?, "{text}");
+    }
     Ok(())
 }
 

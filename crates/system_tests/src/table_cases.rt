@@ -99,6 +99,12 @@ fn is_printed(alloc: Global, cond: &Cond, text: &str) -> Result<bool, NoMemory> 
     Ok(print_cond(alloc, cond)?.as_str() == text)
 }
 
+/// Two rows of the precise table of points.
+const POINT_ROWS: &str = "type points
+nearest remove : p2 = 0 or p1 != a2
+nearest add : p2 = 0 or a1 = a2 or (p1 != -1 and beyond(arg1, arg2, rep1) = 1)
+";
+
 #[test]
 fn lattice_bounds(rt: HostRuntime) -> Result<(), Fail> {
     let alloc = rt.alloc();
@@ -109,9 +115,7 @@ fn lattice_bounds(rt: HostRuntime) -> Result<(), Fail> {
     assert!(rt; is_printed(alloc, &join(alloc, &both, &a)?, "a1 != a2")?);
     assert!(rt; is_printed(alloc, &join(alloc, &a, &b)?, "true")?);
     assert!(rt; is_printed(alloc, &join(alloc, &Cond::False, &a)?, "a1 != a2")?);
-    let text =
-        "type points\nnearest remove : p2 = 0 or p1 != a2\nnearest add : p2 = 0 or a1 = a2 or (p1 != -1 and beyond(arg1, arg2, rep1) = 1)\n";
-    let (_, points) = read_table(alloc, text.as_bytes(), &[Kind::Points])?;
+    let (_, points) = read_table(alloc, POINT_ROWS.as_bytes(), &[Kind::Points])?;
     let nearest_remove = strengthen(alloc, points.row(35, 33))?;
     assert!(rt; is_printed(alloc, &nearest_remove, "p1 != a2")?);
     let nearest_add = strengthen(alloc, points.row(35, 32))?;

@@ -1,7 +1,8 @@
 //! Lines, fields and numbers of a text, as slices of its bytes: what every text that Galois reads is made of.
 //!
-//! A reader takes a line by `first_line` while there are bytes left, its fields by `next_field`, and a
-//! field's number by `number`. Nothing is copied. `specs/` says what the lines and the fields of a text are.
+//! While there are bytes left, `let (line, rest) = first_line(text);` takes a line. `next_field(line)` is its first field
+//! and what follows it, or `None` where there is none, and `number(field)` the number that a field spells, or `None`.
+//! Nothing is copied. `specs/` says what the lines and the fields of a text are.
 #![tactic(auto)]
 
 mod fields;

@@ -354,3 +354,12 @@ named-with_name [] worker iter item = refl
 named-with_name (h ∷ hs) worker iter item =
     (λ i. marked_by worker iter h (is_hold_of worker iter h) (is_before item h.item) refl i || named-with_name hs worker iter item i)
     ∙ either_paired (is_hold_of worker iter h && is_before item h.item) (is_hold_of worker iter h && h.named) (holds_after hs worker iter item) (is_named_in hs worker iter)
+
+unnamed_by : (mine : Bool) → (mine && false) ≡ false
+unnamed_by true = refl
+unnamed_by false = refl
+
+-- std's ordered map keeps no names
+pub kept-unnamed : (es : List (Item × Holder)) (worker iter : ℕ) → is_named_in (holds_of es) worker iter ≡ false
+kept-unnamed [] worker iter = refl
+kept-unnamed (e ∷ es) worker iter = λ i. unnamed_by (is_hold_of worker iter (hold_at e)) i || kept-unnamed es worker iter i

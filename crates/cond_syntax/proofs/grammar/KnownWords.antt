@@ -6,7 +6,7 @@ use Rattle.gx_base.specs.Conditions.{Condition}
 use Rattle.gx_base.specs.declared.conditions.Part.{Part}
 use Rattle.gx_base.specs.declared.conditions.Term.{Term}
 use Rattle.cond_syntax.specs.Tokens.{Token}
-use Rattle.cond_syntax.specs.Written.{WrittenTerm, Comparison, Written, part_named, beyond_of, term_of, compared, joined, negated, condition_in}
+use Rattle.cond_syntax.specs.WrittenConditions.{WrittenTerm, Comparison, WrittenCondition, part_named, beyond_of, term_of, compared, joined, negated, condition_in}
 use Rattle.cond_syntax.specs.Grammar as grammar
 use Rattle.cond_syntax.specs.Grammar.{IsTerm, IsOperator, IsCondition, IsConjunction, IsUnit}
 use Rattle.cond_syntax.specs.Fronts.{all_known}
@@ -47,7 +47,7 @@ term_known grammar.word kind = refl
 term_known (grammar.beyond {x} {y} {z} {ts}) kind = beyond_is_some (part_named x) (part_named y) (part_named z) (all_known kind false ts)
 
 mutual
-  unit_known : {ps qs : List Token} {c : Written} → IsUnit ps qs c → (kind : ℕ) → all_known kind false ps ≡ (is_some (condition_in kind c) && all_known kind false qs)
+  unit_known : {ps qs : List Token} {c : WrittenCondition} → IsUnit ps qs c → (kind : ℕ) → all_known kind false ps ≡ (is_some (condition_in kind c) && all_known kind false qs)
   unit_known (grammar.not {qs} {c} h) kind = unit_known h kind ∙ negated_is_some (condition_in kind c) (all_known kind false qs)
   unit_known (grammar.group h) kind = condition_known h kind
   unit_known grammar.true kind = refl
@@ -56,14 +56,14 @@ mutual
       term_known h kind ∙ ap (λ b. is_some (term_of kind x) && b) (operator_known o kind qs ∙ term_known k kind)
       ∙ (compared_is_some op (term_of kind x) (term_of kind y) (all_known kind false rs))
 
-  conjunction_known : {ps qs : List Token} {c : Written} → IsConjunction ps qs c → (kind : ℕ)
+  conjunction_known : {ps qs : List Token} {c : WrittenCondition} → IsConjunction ps qs c → (kind : ℕ)
       → all_known kind false ps ≡ (is_some (condition_in kind c) && all_known kind false qs)
   conjunction_known (grammar.unit h) kind = unit_known h kind
   conjunction_known (grammar.and {rs} {c} {d} h k) kind =
       conjunction_known h kind ∙ ap (λ b. is_some (condition_in kind c) && b) (unit_known k kind)
       ∙ (joined_is_some plain.And (condition_in kind c) (condition_in kind d) (all_known kind false rs))
 
-  condition_known : {ps qs : List Token} {c : Written} → IsCondition ps qs c → (kind : ℕ)
+  condition_known : {ps qs : List Token} {c : WrittenCondition} → IsCondition ps qs c → (kind : ℕ)
       → all_known kind false ps ≡ (is_some (condition_in kind c) && all_known kind false qs)
   condition_known (grammar.conjunction h) kind = conjunction_known h kind
   condition_known (grammar.or {rs} {c} {d} h k) kind =
@@ -76,7 +76,7 @@ and_true : (a : Bool) → (a && true) ≡ a
 and_true true = refl
 and_true false = refl
 
-spelled_known : (kind : ℕ) (ts : List Token) (c : Written) → IsCondition ts [] c → is_some (condition_in kind c) ≡ all_known kind false ts
+spelled_known : (kind : ℕ) (ts : List Token) (c : WrittenCondition) → IsCondition ts [] c → is_some (condition_in kind c) ≡ all_known kind false ts
 spelled_known kind ts c spelled = sym (condition_known spelled kind ∙ and_true (is_some (condition_in kind c)))
 
 what_is_some : {A : Type 0} (o : Option A) → is_some o ≡ true → (x : A) × (o ≡ Some x)
@@ -88,8 +88,8 @@ what_is_none None h = refl
 what_is_none (Some x) h = absurd (cc)
 
 -- a condition's words are known exactly where each word of its tokens is
-pub known_words : (kind : ℕ) (ts : List Token) (c : Written) → IsCondition ts [] c → all_known kind false ts ≡ true → (d : Condition) × (condition_in kind c ≡ Some d)
+pub known_words : (kind : ℕ) (ts : List Token) (c : WrittenCondition) → IsCondition ts [] c → all_known kind false ts ≡ true → (d : Condition) × (condition_in kind c ≡ Some d)
 known_words kind ts c spelled known = what_is_some (condition_in kind c) (spelled_known kind ts c spelled ∙ known)
 
-pub unknown_word : (kind : ℕ) (ts : List Token) (c : Written) → IsCondition ts [] c → all_known kind false ts ≡ false → condition_in kind c ≡ None
+pub unknown_word : (kind : ℕ) (ts : List Token) (c : WrittenCondition) → IsCondition ts [] c → all_known kind false ts ≡ false → condition_in kind c ≡ None
 unknown_word kind ts c spelled unknown = what_is_none (condition_in kind c) (spelled_known kind ts c spelled ∙ unknown)

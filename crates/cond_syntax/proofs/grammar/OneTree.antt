@@ -2,13 +2,13 @@
 use Rattle.std.specs.Prelude.{◌≡◌, List, [], Some}
 use Rattle.std.proofs.Common.{sym, ◌∙◌, ap}
 use Rattle.cond_syntax.specs.Tokens.{Token}
-use Rattle.cond_syntax.specs.Written.{Written}
+use Rattle.cond_syntax.specs.WrittenConditions.{WrittenCondition}
 use Rattle.cond_syntax.specs.Grammar.{IsCondition}
 use Rattle.cond_syntax.proofs.machine.Machine.{whole}
 use Rattle.cond_syntax.proofs.machine.GrammarToMachine.{spelled_runs}
 
 -- tokens spell one condition at most
-pub one_tree : (ts : List Token) (c d : Written) → IsCondition ts [] c → IsCondition ts [] d → c ≡ d
+pub one_tree : (ts : List Token) (c d : WrittenCondition) → IsCondition ts [] c → IsCondition ts [] d → c ≡ d
 one_tree ts c d first second =
     let one = spelled_runs first in
     let other = spelled_runs second in

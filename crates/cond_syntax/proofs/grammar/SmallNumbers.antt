@@ -5,7 +5,7 @@ use Rattle.text_lines.proofs.CallerLemmas.{number_of-below}
 use Rattle.text_lines.specs.Numbers.{number_of}
 use Rattle.cond_syntax.specs.Pieces.{pieces_of}
 use Rattle.cond_syntax.specs.Tokens.{Token, Word, Number, TypeKey, OrKey, AndKey, NotKey, TrueKey, FalseKey, BeyondKey, Open, Close, Comma, Colon, Equal, Differ, Less, AtMost, Odd, word_token, sign_token, positive_token, negative_token, token_of, tokens_of}
-use Rattle.cond_syntax.specs.Written.{WrittenTerm, Fixed, Named, Far, Written, True, False, Compare, And, Or, Not}
+use Rattle.cond_syntax.specs.WrittenConditions.{WrittenTerm, Fixed, Named, Far, WrittenCondition, True, False, Compare, And, Or, Not}
 use Rattle.cond_syntax.specs.Grammar as grammar
 use Rattle.cond_syntax.specs.Grammar.{IsTerm, IsCondition, IsConjunction, IsUnit}
 
@@ -88,7 +88,7 @@ HasSmallNumber (Fixed number) = nat_abs number < 10 ^ 18
 HasSmallNumber (Named word) = Unit {0}
 HasSmallNumber (Far x y z) = Unit {0}
 
-abbrev pub HasSmallNumbers : Written → Type 0
+abbrev pub HasSmallNumbers : WrittenCondition → Type 0
 HasSmallNumbers True = Unit {0}
 HasSmallNumbers False = Unit {0}
 HasSmallNumbers (Compare op x y) = HasSmallNumber x × HasSmallNumber y
@@ -102,7 +102,7 @@ term-small grammar.word small = (tt, small.1)
 term-small grammar.beyond small = (tt, small.1.1.1.1.1.1.1.1)
 
 mutual
-  unit-small : {ps qs : List Token} {c : Written} → IsUnit ps qs c → AreSmall ps → HasSmallNumbers c × AreSmall qs
+  unit-small : {ps qs : List Token} {c : WrittenCondition} → IsUnit ps qs c → AreSmall ps → HasSmallNumbers c × AreSmall qs
   unit-small (grammar.not h) small = unit-small h small.1
   unit-small (grammar.group h) small = let inside = condition-small h small.1 in (inside.0, inside.1.1)
   unit-small grammar.true small = (tt, small.1)
@@ -112,14 +112,14 @@ mutual
       let right = term-small k left.1.1 in
       ((left.0, right.0), right.1)
 
-  conjunction-small : {ps qs : List Token} {c : Written} → IsConjunction ps qs c → AreSmall ps → HasSmallNumbers c × AreSmall qs
+  conjunction-small : {ps qs : List Token} {c : WrittenCondition} → IsConjunction ps qs c → AreSmall ps → HasSmallNumbers c × AreSmall qs
   conjunction-small (grammar.unit h) small = unit-small h small
   conjunction-small (grammar.and h k) small =
       let left = conjunction-small h small in
       let right = unit-small k left.1.1 in
       ((left.0, right.0), right.1)
 
-  pub condition-small : {ps qs : List Token} {c : Written} → IsCondition ps qs c → AreSmall ps → HasSmallNumbers c × AreSmall qs
+  pub condition-small : {ps qs : List Token} {c : WrittenCondition} → IsCondition ps qs c → AreSmall ps → HasSmallNumbers c × AreSmall qs
   condition-small (grammar.conjunction h) small = conjunction-small h small
   condition-small (grammar.or h k) small =
       let left = condition-small h small in

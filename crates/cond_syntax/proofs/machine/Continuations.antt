@@ -2,7 +2,7 @@
 use Rattle.std.specs.Prelude.{◌≡◌, ℕ, pos, List, [], ◌∷◌}
 use Rattle.std.proofs.Common.{sym, subst}
 use Rattle.cond_syntax.specs.Tokens.{Token, Word, Number, NotKey, TrueKey, BeyondKey, Open, Close, Comma, Equal}
-use Rattle.cond_syntax.specs.Written.{WrittenTerm, Far, Written, True, Compare, And, Or, Not, IsEqual, Fixed}
+use Rattle.cond_syntax.specs.WrittenConditions.{WrittenTerm, Far, WrittenCondition, True, Compare, And, Or, Not, IsEqual, Fixed}
 use Rattle.cond_syntax.specs.Grammar as grammar
 use Rattle.cond_syntax.specs.Grammar.{IsTerm, IsCondition, IsConjunction, IsUnit}
 use Rattle.cond_syntax.proofs.machine.Machine.{Frame, OrLeft, AndLeft, Negation, Group, Due, First, Second, State, Operand, OperatorDue, TermDue, OpenDue, FirstDue, FirstDone, SecondDue, SecondDone, ThirdDue, ThirdDone, Done}
@@ -36,21 +36,21 @@ rest_of (Done c frames) = closings frames
 
 -- these tokens spell some condition
 pub record SpellsSome (all : List Token) : Type 0 where
-  pub tree : Written
+  pub tree : WrittenCondition
   pub spelled : IsCondition all [] tree
 
-spells : (all from : List Token) (c : Written) → all ≡ from → IsCondition from [] c → SpellsSome all
+spells : (all from : List Token) (c : WrittenCondition) → all ≡ from → IsCondition from [] c → SpellsSome all
 spells all from c same h = let Spelled : List Token → Type 0 = λ ts. IsCondition ts [] c in record { tree = c; spelled = subst Spelled (sym same) h }
 
 mutual
-  unit_goes_on : (all from : List Token) (c : Written) (frames : List Frame) → Waits all frames from → IsUnit from (closings frames) c → SpellsSome all
+  unit_goes_on : (all from : List Token) (c : WrittenCondition) (frames : List Frame) → Waits all frames from → IsUnit from (closings frames) c → SpellsSome all
   unit_goes_on all from c [] waits h = spells all from c waits (grammar.conjunction (grammar.unit h))
   unit_goes_on all from c (Group ∷ frames) waits h = unit_goes_on all (Open ∷ from) c frames waits (grammar.group (grammar.conjunction (grammar.unit h)))
   unit_goes_on all from c (Negation ∷ frames) waits h = unit_goes_on all (NotKey ∷ from) (Not c) frames waits (grammar.not h)
   unit_goes_on all from c (AndLeft left ∷ frames) waits h = conjunction_goes_on all waits.0 (And left c) frames waits.1 waits.3 (grammar.and waits.2 h)
   unit_goes_on all from c (OrLeft left ∷ frames) waits h = condition_goes_on all waits.0 (Or left c) frames waits.1 waits.3 (grammar.or waits.2 (grammar.unit h))
 
-  conjunction_goes_on : (all from : List Token) (c : Written) (frames : List Frame) → Waits all frames from → MayConjoin frames
+  conjunction_goes_on : (all from : List Token) (c : WrittenCondition) (frames : List Frame) → Waits all frames from → MayConjoin frames
       → IsConjunction from (closings frames) c → SpellsSome all
   conjunction_goes_on all from c [] waits may h = spells all from c waits (grammar.conjunction h)
   conjunction_goes_on all from c (Group ∷ frames) waits may h = unit_goes_on all (Open ∷ from) c frames waits (grammar.group (grammar.conjunction h))
@@ -58,7 +58,7 @@ mutual
   conjunction_goes_on all from c (AndLeft left ∷ frames) waits may h = absurd may
   conjunction_goes_on all from c (OrLeft left ∷ frames) waits may h = condition_goes_on all waits.0 (Or left c) frames waits.1 waits.3 (grammar.or waits.2 h)
 
-  condition_goes_on : (all from : List Token) (c : Written) (frames : List Frame) → Waits all frames from → MayBegin frames
+  condition_goes_on : (all from : List Token) (c : WrittenCondition) (frames : List Frame) → Waits all frames from → MayBegin frames
       → IsCondition from (closings frames) c → SpellsSome all
   condition_goes_on all from c [] waits may h = spells all from c waits h
   condition_goes_on all from c (Group ∷ frames) waits may h = unit_goes_on all (Open ∷ from) c frames waits (grammar.group h)

@@ -3,7 +3,7 @@
 use Rattle.std.specs.Prelude.{◌≡◌, List, [], ◌∷◌, ◌++◌, Option, Some, None, refl}
 use Rattle.std.proofs.Common.{sym, ◌∙◌, ap}
 use Rattle.cond_syntax.specs.Tokens.{Token, OrKey}
-use Rattle.cond_syntax.specs.Written.{WrittenTerm, Comparison, Written, Compare, Or}
+use Rattle.cond_syntax.specs.WrittenConditions.{WrittenTerm, Comparison, WrittenCondition, Compare, Or}
 use Rattle.cond_syntax.specs.Grammar as grammar
 use Rattle.cond_syntax.specs.Grammar.{IsTerm, IsOperator, IsCondition, IsConjunction, IsUnit}
 use Rattle.cond_syntax.proofs.machine.Machine.{Frame, OrLeft, AndLeft, Negation, Group, State, Operand, OperatorDue, TermDue, Done, unit_done, or_read, group_closed, close_read, step, whole, run}
@@ -29,7 +29,7 @@ begins-conjoins (AndLeft left ∷ frames) may = may
 begins-conjoins (Negation ∷ frames) may = may
 
 -- a unit is a conjunction where a conjunction may begin
-unit_alone : (c : Written) (frames : List Frame) → MayConjoin frames → unit_done c frames ≡ Done c frames
+unit_alone : (c : WrittenCondition) (frames : List Frame) → MayConjoin frames → unit_done c frames ≡ Done c frames
 unit_alone c [] may = refl
 unit_alone c (Group ∷ frames) may = refl
 unit_alone c (OrLeft left ∷ frames) may = refl
@@ -37,21 +37,21 @@ unit_alone c (AndLeft left ∷ frames) may = absurd may
 unit_alone c (Negation ∷ frames) may = absurd may
 
 -- a conjunction is a condition where a condition may begin
-close_alone : (c : Written) (frames : List Frame) → MayBegin frames → close_read c frames ≡ group_closed c frames
+close_alone : (c : WrittenCondition) (frames : List Frame) → MayBegin frames → close_read c frames ≡ group_closed c frames
 close_alone c [] may = refl
 close_alone c (Group ∷ frames) may = refl
 close_alone c (OrLeft left ∷ frames) may = absurd may
 close_alone c (AndLeft left ∷ frames) may = absurd may
 close_alone c (Negation ∷ frames) may = absurd may
 
-or_alone : (c : Written) (frames : List Frame) → MayBegin frames → or_read c frames ≡ Operand (OrLeft c ∷ frames)
+or_alone : (c : WrittenCondition) (frames : List Frame) → MayBegin frames → or_read c frames ≡ Operand (OrLeft c ∷ frames)
 or_alone c [] may = refl
 or_alone c (Group ∷ frames) may = refl
 or_alone c (OrLeft left ∷ frames) may = absurd may
 or_alone c (AndLeft left ∷ frames) may = absurd may
 or_alone c (Negation ∷ frames) may = absurd may
 
-whole_joined : (c d : Written) (frames : List Frame) → MayBegin frames → whole (Done d (OrLeft c ∷ frames)) ≡ whole (Done (Or c d) frames)
+whole_joined : (c d : WrittenCondition) (frames : List Frame) → MayBegin frames → whole (Done d (OrLeft c ∷ frames)) ≡ whole (Done (Or c d) frames)
 whole_joined c d [] may = refl
 whole_joined c d (Group ∷ frames) may = refl
 whole_joined c d (OrLeft left ∷ frames) may = absurd may
@@ -60,8 +60,8 @@ whole_joined c d (Negation ∷ frames) may = absurd may
 
 -- Where a unit is due with `frames`, the tokens `ps` are read as far as `qs`. What has been read then, `last` with
 -- `waiting`, goes on as the condition `c` with `frames` does.
-pub record ReadsTo (ps qs : List Token) (c : Written) (frames : List Frame) : Type 0 where
-  pub last : Written
+pub record ReadsTo (ps qs : List Token) (c : WrittenCondition) (frames : List Frame) : Type 0 where
+  pub last : WrittenCondition
   pub waiting : List Frame
   pub read : run (Some (Operand frames)) ps ≡ run (Some (Done last waiting)) qs
   pub closes : close_read last waiting ≡ group_closed c frames
@@ -85,7 +85,7 @@ operator grammar.differ x frames = refl
 operator grammar.less x frames = refl
 operator grammar.at_most x frames = refl
 
-conjunction_reads : {ps qs : List Token} {c : Written} (frames : List Frame) → MayBegin frames
+conjunction_reads : {ps qs : List Token} {c : WrittenCondition} (frames : List Frame) → MayBegin frames
     → run (Some (Operand frames)) ps ≡ run (Some (Done c frames)) qs → ReadsTo ps qs c frames
 conjunction_reads {c} frames may read = record {
   last = c;
@@ -96,7 +96,7 @@ conjunction_reads {c} frames may read = record {
   ends = refl;
 }
 
-or_reads : {ps qs rs : List Token} {c d : Written} (frames : List Frame) → MayBegin frames → ReadsTo ps (OrKey ∷ qs) c frames
+or_reads : {ps qs rs : List Token} {c d : WrittenCondition} (frames : List Frame) → MayBegin frames → ReadsTo ps (OrKey ∷ qs) c frames
     → run (Some (Operand (OrLeft c ∷ frames))) qs ≡ run (Some (Done d (OrLeft c ∷ frames))) rs → ReadsTo ps rs (Or c d) frames
 or_reads {qs} {c} {d} frames may first second = record {
   last = d;
@@ -108,24 +108,24 @@ or_reads {qs} {c} {d} frames may first second = record {
 }
 
 mutual
-  pub unit_reads : {ps qs : List Token} {c : Written} → IsUnit ps qs c → (frames : List Frame) → run (Some (Operand frames)) ps ≡ run (Some (unit_done c frames)) qs
+  pub unit_reads : {ps qs : List Token} {c : WrittenCondition} → IsUnit ps qs c → (frames : List Frame) → run (Some (Operand frames)) ps ≡ run (Some (unit_done c frames)) qs
   unit_reads (grammar.not h) frames = unit_reads h (Negation ∷ frames)
   unit_reads (grammar.group {qs} h) frames = let inner = condition_reads h (Group ∷ frames) tt in inner.read ∙ ap (λ s. run s qs) inner.closes
   unit_reads grammar.true frames = refl
   unit_reads grammar.false frames = refl
   unit_reads (grammar.compare {qs} {o} {op} {x} h k l) frames = first_term h frames ∙ ap (λ s. run s qs) (operator k x frames) ∙ second_term l x op frames
 
-  conjunction_reads_to : {ps qs : List Token} {c : Written} → IsConjunction ps qs c → (frames : List Frame) → MayConjoin frames
+  conjunction_reads_to : {ps qs : List Token} {c : WrittenCondition} → IsConjunction ps qs c → (frames : List Frame) → MayConjoin frames
       → run (Some (Operand frames)) ps ≡ run (Some (Done c frames)) qs
   conjunction_reads_to (grammar.unit {qs} {c} h) frames may = unit_reads h frames ∙ ap (λ s. run (Some s) qs) (unit_alone c frames may)
   conjunction_reads_to (grammar.and {c} h k) frames may = conjunction_reads_to h frames may ∙ unit_reads k (AndLeft c ∷ frames)
 
-  pub condition_reads : {ps qs : List Token} {c : Written} → IsCondition ps qs c → (frames : List Frame) → MayBegin frames → ReadsTo ps qs c frames
+  pub condition_reads : {ps qs : List Token} {c : WrittenCondition} → IsCondition ps qs c → (frames : List Frame) → MayBegin frames → ReadsTo ps qs c frames
   condition_reads (grammar.conjunction h) frames may = conjunction_reads frames may (conjunction_reads_to h frames (begins-conjoins frames may))
   condition_reads (grammar.or {c} h k) frames may = or_reads frames may (condition_reads h frames may) (conjunction_reads_to k (OrLeft c ∷ frames) tt)
 
 -- what is read as a whole condition from the start
-pub spelled_runs : {ts : List Token} {c : Written} → IsCondition ts [] c → (s : State) × (run (Some (Operand [])) ts ≡ Some s) × (whole s ≡ Some c)
+pub spelled_runs : {ts : List Token} {c : WrittenCondition} → IsCondition ts [] c → (s : State) × (run (Some (Operand [])) ts ≡ Some s) × (whole s ≡ Some c)
 spelled_runs h = let all = condition_reads h [] tt in (Done all.last all.waiting, all.read, all.ends)
 
 -- ---- reading in two parts

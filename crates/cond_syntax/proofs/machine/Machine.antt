@@ -3,12 +3,12 @@
 use Rattle.std.specs.Prelude.{ℕ, Bool, true, false, List, [], ◌∷◌, Option, Some, None}
 use Rattle.cond_syntax.specs.Tokens.{Token, Word, Number, OrKey, AndKey, NotKey, TrueKey, FalseKey, BeyondKey, Open, Close, Comma, Equal, Differ, Less, AtMost}
 use Rattle.cond_syntax.specs.Fronts.{front_of, is_cut}
-use Rattle.cond_syntax.specs.Written.{WrittenTerm, Fixed, Named, Far, Comparison, IsEqual, IsOther, IsLess, IsAtMost, Written, True, False, Compare, And, Or, Not}
+use Rattle.cond_syntax.specs.WrittenConditions.{WrittenTerm, Fixed, Named, Far, Comparison, IsEqual, IsOther, IsLess, IsAtMost, WrittenCondition, True, False, Compare, And, Or, Not}
 
 -- what waits for its right side, the innermost first: an `or` and an `and` with their left sides, a `not`, and an open parenthesis
 pub data Frame : Type 0 where
-  OrLeft : Written → Frame
-  AndLeft : Written → Frame
+  OrLeft : WrittenCondition → Frame
+  AndLeft : WrittenCondition → Frame
   Negation : Frame
   Group : Frame
 
@@ -30,10 +30,10 @@ pub data State : Type 0 where
   SecondDone : (x y : List ℕ) → Due → List Frame → State
   ThirdDue : (x y : List ℕ) → Due → List Frame → State
   ThirdDone : (x y z : List ℕ) → Due → List Frame → State
-  Done : Written → List Frame → State
+  Done : WrittenCondition → List Frame → State
 
 -- a unit has been read
-abbrev pub unit_done : Written → List Frame → State
+abbrev pub unit_done : WrittenCondition → List Frame → State
 unit_done c [] = Done c []
 unit_done c (Negation ∷ frames) = unit_done (Not c) frames
 unit_done c (AndLeft left ∷ frames) = Done (And left c) frames
@@ -46,17 +46,17 @@ term_done x First frames = OperatorDue x frames
 term_done y (Second x op) frames = unit_done (Compare op x y) frames
 
 -- an `or` has been read after a conjunction
-abbrev pub or_read : Written → List Frame → State
+abbrev pub or_read : WrittenCondition → List Frame → State
 or_read c (OrLeft left ∷ frames) = Operand (OrLeft (Or left c) ∷ frames)
 or_read c frames = Operand (OrLeft c ∷ frames)
 
 -- a parenthesis has been closed after a condition
-abbrev pub group_closed : Written → List Frame → Option State
+abbrev pub group_closed : WrittenCondition → List Frame → Option State
 group_closed c (Group ∷ frames) = Some (unit_done c frames)
 group_closed c _ = None
 
 -- a parenthesis has been closed after a conjunction
-abbrev pub close_read : Written → List Frame → Option State
+abbrev pub close_read : WrittenCondition → List Frame → Option State
 close_read c (OrLeft left ∷ frames) = group_closed (Or left c) frames
 close_read c frames = group_closed c frames
 
@@ -86,7 +86,7 @@ term_read x op frames BeyondKey = Some (OpenDue (Second x op) frames)
 term_read x op frames _ = None
 
 -- a token after a conjunction
-abbrev pub conjunction_read : Written → List Frame → Token → Option State
+abbrev pub conjunction_read : WrittenCondition → List Frame → Token → Option State
 conjunction_read c frames AndKey = Some (Operand (AndLeft c ∷ frames))
 conjunction_read c frames OrKey = Some (or_read c frames)
 conjunction_read c frames Close = close_read c frames
@@ -123,7 +123,7 @@ step (ThirdDone x y z due frames) t = close_due (term_done (Far x y z) due frame
 step (Done c frames) t = conjunction_read c frames t
 
 -- the condition that has been read, where it is whole
-abbrev pub whole : State → Option Written
+abbrev pub whole : State → Option WrittenCondition
 whole (Done c []) = Some c
 whole (Done c (OrLeft left ∷ [])) = Some (Or left c)
 whole _ = None
@@ -132,9 +132,9 @@ whole _ = None
 pub data Reading : Type 0 where
   Wrong : Reading
   Cut : Reading
-  Whole : Written → Reading
+  Whole : WrittenCondition → Reading
 
-abbrev pub whole_or_wrong : Option Written → Reading
+abbrev pub whole_or_wrong : Option WrittenCondition → Reading
 whole_or_wrong None = Wrong
 whole_or_wrong (Some c) = Whole c
 

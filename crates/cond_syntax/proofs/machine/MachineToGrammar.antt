@@ -2,7 +2,7 @@
 use Rattle.std.specs.Prelude.{◌≡◌, ℕ, List, [], ◌∷◌, ◌++◌, Option, Some, None, refl}
 use Rattle.std.proofs.Common.{sym, subst}
 use Rattle.cond_syntax.specs.Tokens.{Token, Word, Number, OrKey, AndKey, NotKey, TrueKey, FalseKey, BeyondKey, Open, Close, Comma, Equal, Differ, Less, AtMost}
-use Rattle.cond_syntax.specs.Written.{WrittenTerm, Fixed, Named, Far, Comparison, Written, True, False, Compare, Or, Not}
+use Rattle.cond_syntax.specs.WrittenConditions.{WrittenTerm, Fixed, Named, Far, Comparison, WrittenCondition, True, False, Compare, Or, Not}
 use Rattle.cond_syntax.specs.Grammar as grammar
 use Rattle.cond_syntax.specs.Grammar.{IsTerm, IsOperator, IsCondition, IsConjunction, IsUnit}
 use Rattle.cond_syntax.proofs.machine.Machine.{Frame, OrLeft, AndLeft, Negation, Group, Due, First, Second, State, Operand, OperatorDue, TermDue, OpenDue, FirstDue, FirstDone, SecondDue, SecondDone, ThirdDue, ThirdDone, Done, unit_done, term_done, or_read, group_closed, close_read, operator_read, operand_read, term_read, conjunction_read, open_read, word_read, comma_read, close_due, step, whole, run}
@@ -47,7 +47,7 @@ HoldsIfAny all (Some state) rest = Holds all state rest
 
 -- ---- each step keeps it
 
-unit_holds : (all from rest : List Token) (c : Written) (frames : List Frame) → Waits all frames from → IsUnit from rest c → Holds all (unit_done c frames) rest
+unit_holds : (all from rest : List Token) (c : WrittenCondition) (frames : List Frame) → Waits all frames from → IsUnit from rest c → Holds all (unit_done c frames) rest
 unit_holds all from rest c [] waits h = (from, waits, grammar.unit h, tt)
 unit_holds all from rest c (Negation ∷ frames) waits h = unit_holds all (NotKey ∷ from) rest (Not c) frames waits (grammar.not h)
 unit_holds all from rest c (AndLeft left ∷ frames) waits h = (waits.0, waits.1, grammar.and waits.2 h, waits.3)
@@ -59,7 +59,7 @@ term_holds : (all from rest : List Token) (x : WrittenTerm) (due : Due) (frames 
 term_holds all from rest x First frames waits h = (from, waits, h)
 term_holds all from rest x (Second y op) frames waits h = unit_holds all waits.0 rest (Compare op y x) frames waits.1 (waits.2 x rest h)
 
-group_holds : (all from rest : List Token) (c : Written) (frames : List Frame) → Waits all frames from → IsCondition from (Close ∷ rest) c
+group_holds : (all from rest : List Token) (c : WrittenCondition) (frames : List Frame) → Waits all frames from → IsCondition from (Close ∷ rest) c
     → HoldsIfAny all (group_closed c frames) rest
 group_holds all from rest c [] waits h = tt
 group_holds all from rest c (Negation ∷ frames) waits h = tt
@@ -67,7 +67,7 @@ group_holds all from rest c (AndLeft left ∷ frames) waits h = tt
 group_holds all from rest c (OrLeft left ∷ frames) waits h = tt
 group_holds all from rest c (Group ∷ frames) waits h = unit_holds all (Open ∷ from) rest c frames waits (grammar.group h)
 
-close_holds : (all rest : List Token) (c : Written) (frames : List Frame) → Holds all (Done c frames) (Close ∷ rest) → HoldsIfAny all (close_read c frames) rest
+close_holds : (all rest : List Token) (c : WrittenCondition) (frames : List Frame) → Holds all (Done c frames) (Close ∷ rest) → HoldsIfAny all (close_read c frames) rest
 close_holds all rest c [] holds = tt
 close_holds all rest c (Negation ∷ frames) holds = tt
 close_holds all rest c (AndLeft left ∷ frames) holds = tt
@@ -75,7 +75,7 @@ close_holds all rest c (OrLeft left ∷ frames) holds = let left_side = holds.1 
     group_holds all left_side.0 rest (Or left c) frames left_side.1 (grammar.or left_side.2 holds.2)
 close_holds all rest c (Group ∷ frames) holds = group_holds all holds.0 rest c (Group ∷ frames) holds.1 (grammar.conjunction holds.2)
 
-or_holds : (all rest : List Token) (c : Written) (frames : List Frame) → Holds all (Done c frames) (OrKey ∷ rest) → Holds all (or_read c frames) rest
+or_holds : (all rest : List Token) (c : WrittenCondition) (frames : List Frame) → Holds all (Done c frames) (OrKey ∷ rest) → Holds all (or_read c frames) rest
 or_holds all rest c [] holds = (holds.0, holds.1, grammar.conjunction holds.2, tt)
 or_holds all rest c (Negation ∷ frames) holds = absurd holds.3
 or_holds all rest c (AndLeft left ∷ frames) holds = absurd holds.3
@@ -107,7 +107,7 @@ term_read_holds all rest x op frames (Word word) holds = term_holds all (Word wo
 term_read_holds all rest x op frames BeyondKey holds = holds
 term_read_holds all rest x op frames _ holds = tt
 
-conjunction_holds : (all rest : List Token) (c : Written) (frames : List Frame) (t : Token) → Holds all (Done c frames) (t ∷ rest)
+conjunction_holds : (all rest : List Token) (c : WrittenCondition) (frames : List Frame) (t : Token) → Holds all (Done c frames) (t ∷ rest)
     → HoldsIfAny all (conjunction_read c frames t) rest
 conjunction_holds all rest c frames AndKey holds = holds
 conjunction_holds all rest c frames OrKey holds = or_holds all rest c frames holds
@@ -166,11 +166,11 @@ run_holds all (t ∷ ts) more (Some state) holds = run_holds all ts more (step s
 
 -- ---- what is whole is a condition
 
-abbrev pub IsSpelledIfAny : List Token → Option Written → Type 0
+abbrev pub IsSpelledIfAny : List Token → Option WrittenCondition → Type 0
 IsSpelledIfAny all None = Unit {0}
 IsSpelledIfAny all (Some c) = IsCondition all [] c
 
-from_start : (all from : List Token) (c : Written) → all ≡ from → IsCondition from [] c → IsCondition all [] c
+from_start : (all from : List Token) (c : WrittenCondition) → all ≡ from → IsCondition from [] c → IsCondition all [] c
 from_start all from c same = let Spelled : List Token → Type 0 = λ ts. IsCondition ts [] c in subst Spelled (sym same)
 
 pub whole_holds : (all : List Token) (state : State) → Holds all state [] → IsSpelledIfAny all (whole state)

@@ -11,7 +11,7 @@ use Rattle.gx_base.specs.Conditions as plain
 use Rattle.gx_base.specs.Conditions.{Condition}
 use Rattle.gx_base.specs.Kinds.{kind_number}
 use Rattle.cond_syntax.specs.Tokens.{Token}
-use Rattle.cond_syntax.specs.Written.{WrittenTerm, Fixed, Named, Far, Comparison, IsEqual, IsOther, IsLess, IsAtMost, Written, True, False, Compare, And, Or, Not, depth_of, has_state_function, state_named, place_named, side_named, value_at, value_named, term_named, part_named, beyond_of, term_of, compared, joined, negated, condition_in}
+use Rattle.cond_syntax.specs.WrittenConditions.{WrittenTerm, Fixed, Named, Far, Comparison, IsEqual, IsOther, IsLess, IsAtMost, WrittenCondition, True, False, Compare, And, Or, Not, depth_of, has_state_function, state_named, place_named, side_named, value_at, value_named, term_named, part_named, beyond_of, term_of, compared, joined, negated, condition_in}
 use Rattle.cond_syntax.specs.TableTexts.{Spells}
 use Rattle.cond_syntax.proofs.grammar.SmallNumbers.{AreSmall, HasSmallNumber, HasSmallNumbers, condition-small}
 use Rattle.cond_syntax.specs.Printable.{IsPrintableTerm, ArePrintable, condition_depth, IsPrintable}
@@ -26,17 +26,17 @@ either-Names : {A : Type 0} (P : A → Type 0) (b : Bool) (x y : Option A) → N
 either-Names P true x y f g = f
 either-Names P false x y f g = g
 
-abbrev IsPlace : ℕ → Type 0
-IsPlace place = place ≤ 7
+abbrev IsPlaceNumber : ℕ → Type 0
+IsPlaceNumber place = place ≤ 7
 
-next_place : (b : Bool) (place : ℕ) (others : Option ℕ) → place ≤ 7 → Names IsPlace others → Names IsPlace (cond b (Some place) others)
+next_place : (b : Bool) (place : ℕ) (others : Option ℕ) → place ≤ 7 → Names IsPlaceNumber others → Names IsPlaceNumber (cond b (Some place) others)
 next_place true place others le f = record { such = le }
 next_place false place others le f = f
 
-no_place : Names IsPlace None
+no_place : Names IsPlaceNumber None
 no_place = record { such = tt }
 
-place-named : (letter : ℕ) → Names IsPlace (place_named letter)
+place-named : (letter : ℕ) → Names IsPlaceNumber (place_named letter)
 place-named letter =
     next_place (letter == 97) 0 _ (omega arith)
     (next_place (letter == 98) 1 _ (omega arith)
@@ -44,7 +44,7 @@ place-named letter =
     (next_place (letter == 100) 3 _ (omega arith)
     (next_place (letter == 112) 4 _ (omega arith) (next_place (letter == 113) 5 _ (omega arith) (next_place (letter == 114) 6 _ (omega arith) (next_place (letter == 115) 7 _ (omega arith) no_place)))))))
 
-value-at : (kind : Kind) (side : Option Side) (place : Option ℕ) → IfSome place IsPlace → IfSome (value_at side place) (IsPrintableTerm kind)
+value-at : (kind : Kind) (side : Option Side) (place : Option ℕ) → IfSome place IsPlaceNumber → IfSome (value_at side place) (IsPrintableTerm kind)
 value-at kind None None h = tt
 value-at kind None (Some place) h = tt
 value-at kind (Some side) None h = tt
@@ -108,7 +108,7 @@ if_negated : (P R : Condition → Type 0) → ((c : Condition) → P c → R (pl
 if_negated P R so None f = tt
 if_negated P R so (Some c) f = so c f
 
-tree-printable : (kind : Kind) (tree : Written) → HasSmallNumbers tree → IfSome (condition_in (kind_number kind) tree) (ArePrintable kind)
+tree-printable : (kind : Kind) (tree : WrittenCondition) → HasSmallNumbers tree → IfSome (condition_in (kind_number kind) tree) (ArePrintable kind)
 tree-printable kind True small = tt
 tree-printable kind False small = tt
 tree-printable kind (Compare op x y) small =
@@ -137,7 +137,7 @@ compared-depth IsOther (Some x) (Some y) = refl
 compared-depth IsLess (Some x) (Some y) = refl
 compared-depth IsAtMost (Some x) (Some y) = refl
 
-tree-depth : (kind : ℕ) (tree : Written) → IfSome (condition_in kind tree) (HasDepth (depth_of tree))
+tree-depth : (kind : ℕ) (tree : WrittenCondition) → IfSome (condition_in kind tree) (HasDepth (depth_of tree))
 tree-depth kind True = refl
 tree-depth kind False = refl
 tree-depth kind (Compare op x y) = compared-depth op (term_of kind x) (term_of kind y)

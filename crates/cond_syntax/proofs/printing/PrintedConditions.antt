@@ -12,8 +12,8 @@ use Rattle.gx_base.specs.declared.conditions.Term.TheVariants.{Const, Value, Bey
 use Rattle.gx_base.specs.Conditions.{Condition, True, False, Eq, Ne, Lt, Le, And, Or, Not}
 use Rattle.gx_base.specs.Kinds.{kind_number}
 use Rattle.cond_syntax.specs.Tokens.{Token, Close, AndKey, OrKey, tokens_of}
-use Rattle.cond_syntax.specs.Written as written
-use Rattle.cond_syntax.specs.Written.{Written, WrittenTerm, has_state_function, Fixed, Named, Far, Comparison, IsEqual, IsOther, IsLess, IsAtMost, Compare, term_of, part_named, condition_in, compared, comparison_of, beyond_of, joined, negated}
+use Rattle.cond_syntax.specs.WrittenConditions as written
+use Rattle.cond_syntax.specs.WrittenConditions.{WrittenCondition, WrittenTerm, has_state_function, Fixed, Named, Far, Comparison, IsEqual, IsOther, IsLess, IsAtMost, Compare, term_of, part_named, condition_in, compared, comparison_of, beyond_of, joined, negated}
 use Rattle.cond_syntax.specs.Grammar as grammar
 use Rattle.cond_syntax.specs.Grammar.{IsTerm, IsOperator, IsCondition, IsConjunction, IsUnit}
 use Rattle.cond_syntax.specs.Fronts.{is_cut_from, most_open}
@@ -30,7 +30,7 @@ written_term (Value side place) = Named (letter_of place ∷ digit_of side ∷ [
 written_term (Beyond x y z) = Far (part_text x) (part_text y) (part_text z)
 written_term (State side) = Named (state_text side)
 
-abbrev pub written_of : Condition → Written
+abbrev pub written_of : Condition → WrittenCondition
 written_of True = written.True
 written_of False = written.False
 written_of (Eq x y) = Compare IsEqual (written_term x) (written_term y)
@@ -99,13 +99,13 @@ term_form (Beyond x y z) qs = grammar.beyond
 term_form (State side) qs = grammar.word
 
 -- tokens that are a condition, a conjunction or a unit in front of whatever follows
-abbrev pub AsCondition : (List Token → List Token) → Written → Type 0
+abbrev pub AsCondition : (List Token → List Token) → WrittenCondition → Type 0
 AsCondition tokens tree = (qs : List Token) → IsCondition (tokens qs) qs tree
 
-abbrev pub AsConjunction : (List Token → List Token) → Written → Type 0
+abbrev pub AsConjunction : (List Token → List Token) → WrittenCondition → Type 0
 AsConjunction tokens tree = (qs : List Token) → IsConjunction (tokens qs) qs tree
 
-abbrev pub AsUnit : (List Token → List Token) → Written → Type 0
+abbrev pub AsUnit : (List Token → List Token) → WrittenCondition → Type 0
 AsUnit tokens tree = (qs : List Token) → IsUnit (tokens qs) qs tree
 
 record HasForm (c : Condition) : Type 0 where
@@ -116,11 +116,11 @@ record HasForm (c : Condition) : Type 0 where
 of_unit : (c : Condition) → AsUnit (condition_onto c) (written_of c) → HasForm c
 of_unit c h = record { condition = λ qs. grammar.conjunction (grammar.unit (h qs)); conjunction = λ e qs. grammar.unit (h qs); unit = λ e. h }
 
-grouped_unit : (b : Bool) (tokens : List Token → List Token) (tree : Written) → AsCondition tokens tree → (b ≡ false → AsUnit tokens tree) → AsUnit (grouped_onto b tokens) tree
+grouped_unit : (b : Bool) (tokens : List Token → List Token) (tree : WrittenCondition) → AsCondition tokens tree → (b ≡ false → AsUnit tokens tree) → AsUnit (grouped_onto b tokens) tree
 grouped_unit true tokens w whole one qs = grammar.group (whole (Close ∷ qs))
 grouped_unit false tokens w whole one qs = one refl qs
 
-grouped_conjunction : (b : Bool) (tokens : List Token → List Token) (tree : Written) → AsCondition tokens tree → (b ≡ false → AsConjunction tokens tree) → AsConjunction (grouped_onto b tokens) tree
+grouped_conjunction : (b : Bool) (tokens : List Token → List Token) (tree : WrittenCondition) → AsCondition tokens tree → (b ≡ false → AsConjunction tokens tree) → AsConjunction (grouped_onto b tokens) tree
 grouped_conjunction true tokens w whole one qs = grammar.unit (grammar.group (whole (Close ∷ qs)))
 grouped_conjunction false tokens w whole one qs = one refl qs
 

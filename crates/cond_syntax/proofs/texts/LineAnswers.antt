@@ -10,7 +10,7 @@ use Rattle.gx_base.specs.Kinds.{kind_number}
 use Rattle.gx_base.specs.Methods.{method_of}
 use Rattle.gx_base.specs.TableRows.{RowMap}
 use Rattle.cond_syntax.specs.Tokens.{Token, Word, TypeKey, Colon, tokens_of}
-use Rattle.cond_syntax.specs.Written.{Written, depth_of}
+use Rattle.cond_syntax.specs.WrittenConditions.{WrittenCondition, depth_of}
 use Rattle.cond_syntax.specs.Fronts.{front_of, IsOfForm, all_known}
 use Rattle.cond_syntax.proofs.machine.Machine.{Reading, Wrong, Cut, Whole, reading_of}
 use Rattle.cond_syntax.proofs.grammar.FrontLemmas.{front_whole}
@@ -138,7 +138,7 @@ record IsReadable (kind : Kind) (ts : List Token) : Type 0 where
   form : IsOfForm ts
   answer : IsTooDeep ts ⊎ (all_known (kind_number kind) false (front_of ts) ≡ true → (condition : Condition) × Spells kind ts condition)
 
-whole_spells : (kind : Kind) (ts : List Token) (tree : Written) → reading_of ts ≡ Whole tree → depth_of tree ≤ most_deep → all_known (kind_number kind) false (front_of ts) ≡ true
+whole_spells : (kind : Kind) (ts : List Token) (tree : WrittenCondition) → reading_of ts ≡ Whole tree → depth_of tree ≤ most_deep → all_known (kind_number kind) false (front_of ts) ≡ true
     → (condition : Condition) × Spells kind ts condition
 whole_spells kind ts tree is shallow known =
     let uncut = whole_is_not_cut ts tree is in
@@ -147,7 +147,7 @@ whole_spells kind ts tree is shallow known =
     let means = known_words (kind_number kind) ts tree spelled all in
     (means.0, record { shallow = uncut; tree = tree; spelled = spelled; means = means.1; depth = shallow })
 
-whole_readable : (kind : Kind) (ts : List Token) (tree : Written) → reading_of ts ≡ Whole tree → IsReadable kind ts
+whole_readable : (kind : Kind) (ts : List Token) (tree : WrittenCondition) → reading_of ts ≡ Whole tree → IsReadable kind ts
 whole_readable kind ts tree is = elim (cases_lt most_deep (depth_of tree)) [
   | inr shallow ↦ record { form = whole_has_form ts tree is; answer = inr (whole_spells kind ts tree is shallow) }
   | inl deep ↦ record { form = whole_has_form ts tree is; answer = inl (inr (tree, whole_is_spelled ts tree is, deep)) }

@@ -8,7 +8,7 @@ use Rattle.gx_base.specs.Kinds.{kind_number}
 use Rattle.gx_base.specs.Methods.{method_of}
 use Rattle.gx_base.specs.TableRows.{RowMap}
 use Rattle.cond_syntax.specs.Tokens.{Token, Word, Colon, tokens_of}
-use Rattle.cond_syntax.specs.Written.{depth_of}
+use Rattle.cond_syntax.specs.WrittenConditions.{depth_of}
 use Rattle.cond_syntax.specs.Fronts.{front_of, IsOfForm, all_known}
 use Rattle.cond_syntax.specs.TableTexts as table_text
 use Rattle.cond_syntax.specs.TableTexts.{most_deep, is_skipped, IsTypeLine, IsRowLine, IsWanted, AreMethods, Spells, IsTooDeep, SoFar, Untyped, Typed, IsRead, Fault, Syntax, UnknownMethod, UnknownName, Twice, TooDeep, HasFault}

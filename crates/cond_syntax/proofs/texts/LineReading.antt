@@ -8,7 +8,7 @@ use Rattle.gx_base.specs.Kinds.{kind_number}
 use Rattle.gx_base.specs.Methods.{method_of}
 use Rattle.gx_base.specs.TableRows.{RowMap}
 use Rattle.cond_syntax.specs.Tokens.{Token, Word, TypeKey, Colon}
-use Rattle.cond_syntax.specs.Written.{condition_in}
+use Rattle.cond_syntax.specs.WrittenConditions.{condition_in}
 use Rattle.cond_syntax.specs.TableTexts as table_text
 use Rattle.cond_syntax.specs.TableTexts.{kind_named, is_skipped, IsTypeLine, IsWanted, AreMethods, Spells, SoFar, Untyped, Typed, IsRead, AreRead}
 use Rattle.cond_syntax.proofs.grammar.OneTree.{one_tree}

@@ -24,21 +24,21 @@ in_range : (start count i : ℕ) → start ≤ i → i < start + count → (nat_
 in_range start count i low high = rw (le-leb start i low, lt-ltb i (start + count) high) refl
 
 -- the place that a search gives is one of the list
-record IsWithin (start count i : ℕ) : Type 0 where
+record IsInRange (start count i : ℕ) : Type 0 where
   low : start ≤ i
   high : i < start + count
 
-found-IsWithin : {K : Type 0} (test : K → Bool) (start : ℕ) (xs : List K) (i : ℕ) → position_from test start xs ≡ Some i → IsWithin start (length xs) i
-found-IsWithin test start [] i h = absurd (cc)
-found-IsWithin test start (x ∷ xs) i h = elim (cases_Bool (test x)) [
+found-IsInRange : {K : Type 0} (test : K → Bool) (start : ℕ) (xs : List K) (i : ℕ) → position_from test start xs ≡ Some i → IsInRange start (length xs) i
+found-IsInRange test start [] i h = absurd (cc)
+found-IsInRange test start (x ∷ xs) i h = elim (cases_Bool (test x)) [
   | inl t ↦ let same : start ≡ i = cc in record { low = omega arith; high = omega arith }
-  | inr f ↦ let later = found-IsWithin test (start + 1) xs i (rw f at h) in record { low = omega arith; high = omega arith }
+  | inr f ↦ let later = found-IsInRange test (start + 1) xs i (rw f at h) in record { low = omega arith; high = omega arith }
 ]
 
 -- a method that a word names is one of the kind's
 named-is_method : (kind : ℕ) (word : List ℕ) (i : ℕ) → method_of kind word ≡ Some i → is_method kind i ≡ true
 named-is_method kind word i h =
-    let within = found-IsWithin _ (first_method kind) (words_of kind) i h in
+    let within = found-IsInRange _ (first_method kind) (words_of kind) i h in
     in_range (first_method kind) (length (words_of kind)) i within.low within.high
 
 -- a row of two methods of the kind, with a printable condition

@@ -4,7 +4,7 @@ use Rattle.gx_base.specs.declared.kinds.Kind.{Kind}
 use Rattle.gx_base.specs.Kinds.{kind_number}
 use Rattle.gx_base.specs.Conditions.{Condition}
 use Rattle.cond_syntax.specs.Tokens.{Token}
-use Rattle.cond_syntax.specs.Written.{Written, depth_of, condition_in}
+use Rattle.cond_syntax.specs.WrittenConditions.{WrittenCondition, depth_of, condition_in}
 use Rattle.cond_syntax.specs.Fronts.{front_of, all_known}
 use Rattle.cond_text.specs.Machine.{Cut, Whole, reading_of}
 use Rattle.cond_syntax.specs.TableTexts.{most_deep}
@@ -21,19 +21,19 @@ cut_found kind ts true is known = (cut_has_form ts is, known, inl (cut_is_cut ts
 cut_found kind ts false is known = (cut_has_form ts is, known)
 
 -- all tokens are read, so that the words among them are those of the condition
-known_whole : (kind : ℕ) (ts : List Token) (w : Written) (known : Bool) → reading_of ts ≡ Whole w → all_known kind false (front_of ts) ≡ known → all_known kind false ts ≡ known
+known_whole : (kind : ℕ) (ts : List Token) (w : WrittenCondition) (known : Bool) → reading_of ts ≡ Whole w → all_known kind false (front_of ts) ≡ known → all_known kind false ts ≡ known
 known_whole kind ts w known is words =
     let front = front_whole ts (whole_is_not_cut ts w is) in
     rw front at words
 
 -- some word is known to a condition, or none
-some_is_known : (kind : ℕ) (ts : List Token) (w : Written) (d : Condition) (known : Bool) → reading_of ts ≡ Whole w → all_known kind false (front_of ts) ≡ known → condition_in kind w ≡ Some d → known ≡ true
+some_is_known : (kind : ℕ) (ts : List Token) (w : WrittenCondition) (d : Condition) (known : Bool) → reading_of ts ≡ Whole w → all_known kind false (front_of ts) ≡ known → condition_in kind w ≡ Some d → known ≡ true
 some_is_known kind ts w d true is words means = refl
 some_is_known kind ts w d false is words means =
     let none = unknown_word kind ts w (whole_is_spelled ts w is) (known_whole kind ts w false is words) in
     absurd (cc)
 
-none_too_deep : (kind : ℕ) (ts : List Token) (w : Written) → reading_of ts ≡ Whole w → all_known kind false (front_of ts) ≡ true → (most_deep < depth_of w) ⊎ (condition_in kind w ≡ None) → most_deep < depth_of w
+none_too_deep : (kind : ℕ) (ts : List Token) (w : WrittenCondition) → reading_of ts ≡ Whole w → all_known kind false (front_of ts) ≡ true → (most_deep < depth_of w) ⊎ (condition_in kind w ≡ None) → most_deep < depth_of w
 none_too_deep kind ts w is words (inl deep) = deep
 none_too_deep kind ts w is words (inr none) =
     let some = known_words kind ts w (whole_is_spelled ts w is) (known_whole kind ts w true is words) in
@@ -41,7 +41,7 @@ none_too_deep kind ts w is words (inr none) =
     absurd (cc)
 
 -- all tokens are read
-pub whole_found : (kind : Kind) (ts : List Token) (w : Written) (draft : Draft) (known : Bool) → reading_of ts ≡ Whole w → IsDraft (kind_number kind) w draft → all_known (kind_number kind) false (front_of ts) ≡ known → IsFound kind ts (found_of draft known)
+pub whole_found : (kind : Kind) (ts : List Token) (w : WrittenCondition) (draft : Draft) (known : Bool) → reading_of ts ≡ Whole w → IsDraft (kind_number kind) w draft → all_known (kind_number kind) false (front_of ts) ≡ known → IsFound kind ts (found_of draft known)
 whole_found kind ts w (Kept cond depth) known is kept words =
     let all = some_is_known (kind_number kind) ts w _ known is words kept.2 in (
       whole_has_form ts w is,

@@ -3,12 +3,12 @@ use Rattle.std.proofs.Common.{◌≡◌, ℕ, List, [], ◌∷◌, ◌++◌, Opt
 use Rattle.std.proofs.lemmas.List.{reverse-append, reverse-reverse}
 use Rattle.cond_text.specs.Machine.{State, Frame, operand_read, conjunction_read, First, Operand, whole, whole_or_wrong}
 use Rattle.cond_text.specs.Machine as machine
-use Rattle.cond_syntax.specs.Written.{Written}
+use Rattle.cond_syntax.specs.WrittenConditions.{WrittenCondition}
 use Rattle.cond_text.specs.CodeTokens.{token_seen}
 use Rattle.cond_text.specs.Comparisons.{term_begun}
 use Rattle.cond_text.specs.Drafts.{either_of}
 use Rattle.cond_text.specs.Levels.{IsLevel, IsConjunction, IsWhole, LeadsLevel, LeadsConjunction, outside, or_frames}
-use Rattle.cond_text.specs.Readers.{AreOutside, IsPlace, IsRead, IsTaken, IsEnded, IsReadWhole, unit_begun}
+use Rattle.cond_text.specs.Readers.{AreOutside, IsReaderPlace, HasReached, IsTaken, IsEnded, IsReadWhole, unit_begun}
 use Rattle.cond_text.specs.Sources.{reading, Stops, IsStoppedAt, IsAtEnd}
 use Rattle.gx_base.specs.Kinds.{kind_number}
 use Rattle.cond_text.specs.declared.drafts.Draft.{Draft}
@@ -20,15 +20,15 @@ use Rattle.cond_text.specs.declared.readers.Place.{Place}
 use Rattle.cond_text.specs.declared.readers.Place.TheVariants.{Due, Done}
 use Rattle.cond_text.specs.declared.readers.Reader.{Reader}
 use Rattle.cond_text.specs.declared.levels.Level.{Level}
-use Rattle.cond_text.specs.declared.tokens.Token.{Token}
-use Rattle.cond_text.specs.declared.tokens.Token.TheVariants.{NotKey, TrueKey, FalseKey, Open}
+use Rattle.cond_text.specs.declared.tokens.TextToken.{TextToken}
+use Rattle.cond_text.specs.declared.tokens.TextToken.TheVariants.{NotKey, TrueKey, FalseKey, Open}
 
-pub operand_read-other : (frames : List Frame) (t : Token) → (t ≡ NotKey → ⊥) → (t ≡ Open → ⊥) → operand_read frames (token_seen t) ≡ unit_begun frames (token_seen t)
+pub operand_read-other : (frames : List Frame) (t : TextToken) → (t ≡ NotKey → ⊥) → (t ≡ Open → ⊥) → operand_read frames (token_seen t) ≡ unit_begun frames (token_seen t)
 operand_read-other frames NotKey isnt isnt' = absurd (isnt refl)
 operand_read-other frames Open isnt isnt' = absurd (isnt' refl)
 operand_read-other frames _ isnt isnt' = refl
 
-pub unit_begun-other : (frames : List Frame) (t : Token) → (t ≡ TrueKey → ⊥) → (t ≡ FalseKey → ⊥) → unit_begun frames (token_seen t) ≡ term_begun First frames (token_seen t)
+pub unit_begun-other : (frames : List Frame) (t : TextToken) → (t ≡ TrueKey → ⊥) → (t ≡ FalseKey → ⊥) → unit_begun frames (token_seen t) ≡ term_begun First frames (token_seen t)
 unit_begun-other frames TrueKey isnt isnt' = absurd (isnt refl)
 unit_begun-other frames FalseKey isnt isnt' = absurd (isnt' refl)
 unit_begun-other frames _ isnt isnt' = refl
@@ -57,37 +57,37 @@ AreOutside-some kind levels base some outer = outside_some kind (reverse levels)
 
 -- ---- what has been read inside of the innermost one
 
-pub place_due : (kind : ℕ) (base : Option (List Frame)) (place : Place) (state : State) (level : Level) → IsPlace kind base place state → place ≡ Due level → LeadsLevel kind base state level
+pub place_due : (kind : ℕ) (base : Option (List Frame)) (place : Place) (state : State) (level : Level) → IsReaderPlace kind base place state → place ≡ Due level → LeadsLevel kind base state level
 place_due kind base place state level is due = rw due at is
 
-pub place_done : (kind : ℕ) (base : Option (List Frame)) (place : Place) (state : State) (conjunction : Conjunction) → IsPlace kind base place state → place ≡ Done conjunction → LeadsConjunction kind base state conjunction
+pub place_done : (kind : ℕ) (base : Option (List Frame)) (place : Place) (state : State) (conjunction : Conjunction) → IsReaderPlace kind base place state → place ≡ Done conjunction → LeadsConjunction kind base state conjunction
 place_done kind base place state conjunction is done = rw done at is
 
-pub whole-some : (or_left : Option Written) (frames : List Frame) (last : Written) → whole (machine.Done last (or_frames or_left (outside (Some frames)))) ≡ None
+pub whole-some : (or_left : Option WrittenCondition) (frames : List Frame) (last : WrittenCondition) → whole (machine.Done last (or_frames or_left (outside (Some frames)))) ≡ None
 whole-some (Some left) frames last = refl
 whole-some None frames last = refl
 
-pub whole-none : (or_left : Option Written) (last : Written) → whole (machine.Done last (or_frames or_left (outside None))) ≡ Some (either_of or_left last)
+pub whole-none : (or_left : Option WrittenCondition) (last : WrittenCondition) → whole (machine.Done last (or_frames or_left (outside None))) ≡ Some (either_of or_left last)
 whole-none (Some left) last = refl
 whole-none None last = refl
 
 -- where a parenthesis is open, nothing whole has been read
-pub ended_open : (kind : ℕ) (reader : Reader) (conjunction : Conjunction) (state : State) → IsRead kind reader state → reader.place ≡ Done conjunction → (reader.outer.items ≡ [] → ⊥) → whole state ≡ None
+pub ended_open : (kind : ℕ) (reader : Reader) (conjunction : Conjunction) (state : State) → HasReached kind reader state → reader.place ≡ Done conjunction → (reader.outer.items ≡ [] → ⊥) → whole state ≡ None
 ended_open kind reader conjunction state read is some =
     let done = place_done kind read.base reader.place state conjunction read.place is in
     let open_at = AreOutside-some kind reader.outer.items read.base some read.outer in
     ap whole (done.3 ∙ ap (machine.Done done.0) (done.2.is ∙ ap (λ b. or_frames done.2.or_left (outside b)) open_at.1)) ∙ whole-some done.2.or_left open_at.0 done.0
 
 -- where none is, the conjunction ends the whole
-pub ended_closed : (kind : ℕ) (reader : Reader) (conjunction : Conjunction) (state : State) (draft : Draft) → IsRead kind reader state → reader.place ≡ Done conjunction → reader.outer.items ≡ []
-    → ((base : Option (List Frame)) (last : Written) (frames : List Frame) → IsConjunction kind conjunction base last frames → IsWhole kind base last frames draft) → IsEnded kind (whole state) (Ok draft)
+pub ended_closed : (kind : ℕ) (reader : Reader) (conjunction : Conjunction) (state : State) (draft : Draft) → HasReached kind reader state → reader.place ≡ Done conjunction → reader.outer.items ≡ []
+    → ((base : Option (List Frame)) (last : WrittenCondition) (frames : List Frame) → IsConjunction kind conjunction base last frames → IsWhole kind base last frames draft) → IsEnded kind (whole state) (Ok draft)
 ended_closed kind reader conjunction state draft read is closed ends =
     let done = place_done kind read.base reader.place state conjunction read.place is in
     let none = AreOutside-none kind reader.outer.items read.base closed read.outer in
     let all = ends read.base done.0 done.1 done.2 in
     (either_of all.0 done.0, all.1, ap whole (done.3 ∙ ap (machine.Done done.0) (all.2 ∙ ap (λ b. or_frames all.0 (outside b)) none)) ∙ whole-none all.0 done.0)
 
-pub taken_some : (kind : ℕ) (state : Option State) (taken : Option Reader) (reader : Reader) → IsTaken kind state taken → taken ≡ Some reader → (next : State) × IsRead kind reader next × (state ≡ Some next)
+pub taken_some : (kind : ℕ) (state : Option State) (taken : Option Reader) (reader : Reader) → IsTaken kind state taken → taken ≡ Some reader → (next : State) × HasReached kind reader next × (state ≡ Some next)
 taken_some kind state taken reader is some = rw some at is
 
 pub taken_none : (kind : ℕ) (state : Option State) (taken : Option Reader) → IsTaken kind state taken → taken ≡ None → state ≡ None
@@ -100,7 +100,7 @@ stops_whole old now new state Wrong same stops at = same ∙ stops
 stops_whole old now new state Cut same stops at = (same ∙ stops, at)
 stops_whole old now new state NoMemory same stops at = tt
 
-pub ended_whole : (old new : Source) (given : Option Written) (result : Result Draft Stop) → reading (Some (Operand [])) old ≡ whole_or_wrong given → IsAtEnd new → IsEnded (kind_number old.kind) given result → IsReadWhole old new result
+pub ended_whole : (old new : Source) (given : Option WrittenCondition) (result : Result Draft Stop) → reading (Some (Operand [])) old ≡ whole_or_wrong given → IsAtEnd new → IsEnded (kind_number old.kind) given result → IsReadWhole old new result
 ended_whole old new given (Ok draft) is at ended = (ended.0, ended.1, is ∙ ap whole_or_wrong ended.2, at)
 ended_whole old new given (Err Wrong) is at ended = is ∙ ap whole_or_wrong ended
 ended_whole old new given (Err Cut) is at ended = absurd ended

@@ -2,41 +2,41 @@
 use Rattle.std.proofs.Common.{◌≡◌, ℕ, ◌+◌, ◌==◌, cond, Bool, true, false, ◌&&◌, List, [], ◌∷◌, Some, None, refl, ap, Bor, ℤ}
 use Rattle.cond_syntax.specs.Tokens as plain
 use Rattle.cond_syntax.specs.Fronts.{front_from, is_cut_from, all_known}
-use Rattle.cond_syntax.specs.Written.{WrittenTerm, Comparison}
+use Rattle.cond_syntax.specs.WrittenConditions.{WrittenTerm, Comparison}
 use Rattle.cond_text.specs.Machine.{State, Frame, Due, Second, open_read, word_read, comma_read, close_due, operator_read, term_read}
 use Rattle.cond_text.specs.Comparisons.{term_begun}
 use Rattle.cond_text.specs.CodeTokens.{token_seen}
 use Rattle.cond_text.specs.TokenSteps.{opened_after, inside_after, knows}
-use Rattle.cond_text.specs.declared.tokens.Token.{Token}
-use Rattle.cond_text.specs.declared.tokens.Token.TheVariants.{Word, Number, BeyondKey, Open, Close, Comma, Equal, Differ, Less, AtMost}
+use Rattle.cond_text.specs.declared.tokens.TextToken.{TextToken}
+use Rattle.cond_text.specs.declared.tokens.TextToken.TheVariants.{Word, Number, BeyondKey, Open, Close, Comma, Equal, Differ, Less, AtMost}
 
 some_same : {A : Type 0} {x y : A} → Some x ≡ Some y → x ≡ y
 some_same is = cc
 
-pub open_read-other : (next : State) (t : Token) → (t ≡ Open → ⊥) → open_read next (token_seen t) ≡ None
+pub open_read-other : (next : State) (t : TextToken) → (t ≡ Open → ⊥) → open_read next (token_seen t) ≡ None
 open_read-other next Open isnt = absurd (isnt refl)
 open_read-other next _ isnt = refl
 
-pub word_read-other : (next : List ℕ → State) (t : Token) → ((word : Bor (List ℕ)) → t ≡ Word word → ⊥) → word_read next (token_seen t) ≡ None
+pub word_read-other : (next : List ℕ → State) (t : TextToken) → ((word : Bor (List ℕ)) → t ≡ Word word → ⊥) → word_read next (token_seen t) ≡ None
 word_read-other next (Word word) isnt = absurd (isnt word refl)
 word_read-other next _ isnt = refl
 
-pub comma_read-other : (next : State) (t : Token) → (t ≡ Comma → ⊥) → comma_read next (token_seen t) ≡ None
+pub comma_read-other : (next : State) (t : TextToken) → (t ≡ Comma → ⊥) → comma_read next (token_seen t) ≡ None
 comma_read-other next Comma isnt = absurd (isnt refl)
 comma_read-other next _ isnt = refl
 
-pub close_due-other : (next : State) (t : Token) → (t ≡ Close → ⊥) → close_due next (token_seen t) ≡ None
+pub close_due-other : (next : State) (t : TextToken) → (t ≡ Close → ⊥) → close_due next (token_seen t) ≡ None
 close_due-other next Close isnt = absurd (isnt refl)
 close_due-other next _ isnt = refl
 
-pub operator_read-other : (x : WrittenTerm) (frames : List Frame) (t : Token) → (t ≡ Equal → ⊥) → (t ≡ Differ → ⊥) → (t ≡ Less → ⊥) → (t ≡ AtMost → ⊥) → operator_read x frames (token_seen t) ≡ None
+pub operator_read-other : (x : WrittenTerm) (frames : List Frame) (t : TextToken) → (t ≡ Equal → ⊥) → (t ≡ Differ → ⊥) → (t ≡ Less → ⊥) → (t ≡ AtMost → ⊥) → operator_read x frames (token_seen t) ≡ None
 operator_read-other x frames Equal equal differ less at_most = absurd (equal refl)
 operator_read-other x frames Differ equal differ less at_most = absurd (differ refl)
 operator_read-other x frames Less equal differ less at_most = absurd (less refl)
 operator_read-other x frames AtMost equal differ less at_most = absurd (at_most refl)
 operator_read-other x frames _ equal differ less at_most = refl
 
-pub term_begun-other : (due : Due) (frames : List Frame) (t : Token) → ((w : Bor (List ℕ)) → t ≡ Word w → ⊥) → ((z : ℤ) → t ≡ Number z → ⊥) → (t ≡ BeyondKey → ⊥) → term_begun due frames (token_seen t) ≡ None
+pub term_begun-other : (due : Due) (frames : List Frame) (t : TextToken) → ((w : Bor (List ℕ)) → t ≡ Word w → ⊥) → ((z : ℤ) → t ≡ Number z → ⊥) → (t ≡ BeyondKey → ⊥) → term_begun due frames (token_seen t) ≡ None
 term_begun-other due frames (Word w) word number beyond = absurd (word w refl)
 term_begun-other due frames (Number z) word number beyond = absurd (number z refl)
 term_begun-other due frames BeyondKey word number beyond = absurd (beyond refl)

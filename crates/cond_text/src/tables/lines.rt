@@ -6,7 +6,7 @@ ghost use Rattle.cond_syntax.specs.Tokens.{tokens_of};
 ghost use Rattle.cond_syntax.specs.TableTexts.{is_skipped};
 ghost use Rattle.cond_text.specs.LineForms.{Says};
 
-use crate::tokens::{Token, next_token};
+use crate::tokens::{TextToken, next_token};
 use text_lines::is_blank;
 
 /// What a line says by its first tokens.
@@ -37,8 +37,8 @@ pub(super) fn said_by(line: &[u8]) -> Said<'_>
     ensures { Says (tokens_of line.now) result }
 {
     match next_token(line) {
-        Some((Token::TypeKey, rest)) => said_by_type(rest),
-        Some((Token::Word(first), rest)) => said_by_row(first, rest),
+        Some((TextToken::TypeKey, rest)) => said_by_type(rest),
+        Some((TextToken::Word(first), rest)) => said_by_row(first, rest),
         _ => Said::Other,
     }
 }
@@ -47,7 +47,7 @@ pub(super) fn said_by(line: &[u8]) -> Said<'_>
 fn said_by_type(rest: &[u8]) -> Said<'_>
     ensures { Says (plain.TypeKey ∷ tokens_of rest.now) result }
 {
-    let Some((Token::Word(name), after)) = next_token(rest) else {
+    let Some((TextToken::Word(name), after)) = next_token(rest) else {
         return Said::Other;
     };
     match next_token(after) {
@@ -60,10 +60,10 @@ fn said_by_type(rest: &[u8]) -> Said<'_>
 fn said_by_row<'a>(first: &'a [u8], rest: &'a [u8]) -> Said<'a>
     ensures { Says (plain.Word first.now ∷ tokens_of rest.now) result }
 {
-    let Some((Token::Word(second), after)) = next_token(rest) else {
+    let Some((TextToken::Word(second), after)) = next_token(rest) else {
         return Said::Other;
     };
-    let Some((Token::Colon, text)) = next_token(after) else {
+    let Some((TextToken::Colon, text)) = next_token(after) else {
         return Said::Other;
     };
     Said::RowLine(first, second, text)

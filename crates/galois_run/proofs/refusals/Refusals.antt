@@ -12,7 +12,7 @@ use Rattle.galois_run.specs.declared.status.Status.TheVariants as statuses
 use Rattle.galois_run.specs.declared.words.Command.{Command}
 use Rattle.galois_run.specs.declared.words.Command.TheVariants.{Flow, Classify}
 use Rattle.galois_run.specs.CommandMeanings.{meaning_by}
-use Rattle.galois_run.specs.Inputs.{Inputs, IsWithin, IsTooLong, AreWithin, HasTooLong}
+use Rattle.galois_run.specs.Inputs.{Inputs, IsWithinLength, IsTooLong, AreWithin, HasTooLong}
 use Rattle.galois_run.specs.CommandMeaning.{CommandMeaning}
 use Rattle.galois_run.specs.commands.Flow.{IsNetworkLimit}
 use Rattle.galois_run.specs.RunFaults.{status_of_fault, FaultsWhere, Answers}
@@ -20,7 +20,7 @@ use Rattle.galois_run.specs.RunTurns.{ComesWhere, PassesLimit, IsCaused, IsAnswe
 
 -- ---- where a report is made, there is no cause for a refusal
 
-short_or_long : (file : Option (List ℕ)) → IfSome file IsWithin → IsSomeAnd file IsTooLong → ⊥
+short_or_long : (file : Option (List ℕ)) → IfSome file IsWithinLength → IsSomeAnd file IsTooLong → ⊥
 short_or_long None within long = long
 short_or_long (Some bytes) within long = omega (arith, within, long)
 

@@ -35,11 +35,11 @@ pub no_more : (kind place : ℕ) → method_at kind place ≡ None → length (w
 no_more kind place e = at_none kind place (nat_lt place (length (words_of kind))) refl e
 
 -- a kind's methods are those from its first one up to its count
-pub record IsWithin (kind method : ℕ) : Type 0 where
+pub record IsOfKind (kind method : ℕ) : Type 0 where
   pub from : first_method kind ≤ method
   pub upto : method < first_method kind + length (words_of kind)
 
-pub within_of : (kind method : ℕ) → is_method kind method ≡ true → IsWithin kind method
+pub within_of : (kind method : ℕ) → is_method kind method ≡ true → IsOfKind kind method
 within_of kind method e =
     let p = and_parts (nat_le (first_method kind) method) (nat_lt method (first_method kind + length (words_of kind))) e in
     record { from = leb-true _ _ p.0; upto = ltb-true _ _ p.1 }
@@ -50,8 +50,8 @@ same_rest first m n a b c d e = omega arith
 -- no two methods of a kind leave the same rest
 pub methods_apart : (kind : Kind) (m n : ℕ) → is_method (kind_number kind) m ≡ true → is_method (kind_number kind) n ≡ true → m % most_methods ≡ n % most_methods → m ≡ n
 methods_apart kind m n e f rest =
-    let p : IsWithin (kind_number kind) m = within_of (kind_number kind) m e in
-    let q : IsWithin (kind_number kind) n = within_of (kind_number kind) n f in
+    let p : IsOfKind (kind_number kind) m = within_of (kind_number kind) m e in
+    let q : IsOfKind (kind_number kind) n = within_of (kind_number kind) n f in
     let few : length (words_of (kind_number kind)) ≤ 8 = few_methods kind in
     let above : m < first_method (kind_number kind) + length (words_of (kind_number kind)) = p.upto in
     let below : n < first_method (kind_number kind) + length (words_of (kind_number kind)) = q.upto in
@@ -74,7 +74,7 @@ pub all_methods : (kind place : ℕ) (P : ℕ → Type 0) → method_at kind pla
     → ((n : ℕ) → is_method kind n ≡ true → n < first_method kind + place → P n) → (n : ℕ) → is_method kind n ≡ true → P n
 all_methods kind place P e before n known =
     let end : length (words_of kind) ≤ place = no_more kind place e in
-    let within : IsWithin kind n = within_of kind n known in
+    let within : IsOfKind kind n = within_of kind n known in
     before n known (omega arith)
 
 drop_range : (a n place : ℕ) → place < n → drop place (range_with_len a n) ≡ (a + place) ∷ drop (place + 1) (range_with_len a n)

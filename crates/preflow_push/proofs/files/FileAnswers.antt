@@ -12,8 +12,8 @@ use Rattle.gx_base.specs.declared.inputs.InputFault.TheVariants.{Line, Large, No
 use Rattle.preflow_push.specs.declared.network.Network.{Network}
 use Rattle.preflow_push.specs.Networks.{Net, view}
 use Rattle.preflow_push.specs.FlowFiles.{AreFlow, IsFlowFile, IsFirstFault}
-use Rattle.preflow_push.specs.FlowLimits.{most_nodes, most_arcs, IsWithin, Passes, IsReadable, IsTooLarge, CallsFor, CallsForOne, answer_of, sized}
-use Rattle.preflow_push.specs.FlowReading.{flow_of, Gives}
+use Rattle.preflow_push.specs.FlowLimits.{most_nodes, most_arcs, IsWithinLimits, Passes, IsReadable, IsTooLarge, CallsFor, CallsForOne, answer_of, sized}
+use Rattle.preflow_push.specs.FlowReading.{flow_of, AnswersReading}
 use Rattle.preflow_push.proofs.files.FirstFaults.{read_flow, flow_is_read, first_fault, one_fault, no_fault}
 
 -- A text is a flow file of at most one network.
@@ -46,7 +46,7 @@ sized_by bytes net false few_arcs n a f = record { net = net; is_file = f; passe
 sized_calls : (bytes : List ℕ) (net : Net) → IsFlowFile bytes net → CallsFor bytes (sized net)
 sized_calls bytes net f = sized_by bytes net (int_le net.nodes (pos most_nodes)) (nat_le (length net.arcs) most_arcs) refl refl f
 
-within_or_past : (net : Net) (what : What) → IsWithin net → Passes net what → ⊥
+within_or_past : (net : Net) (what : What) → IsWithinLimits net → Passes net what → ⊥
 within_or_past net Nodes w p = not_past net.nodes most_nodes w.nodes p
 within_or_past net Arcs w p = omega (arith, w.arcs, p.1)
 within_or_past net File w p = p
@@ -86,7 +86,7 @@ one_limit net Size b p q = absurd p
 -- ---- a text calls for just one answer
 
 readable_or_large : (bytes : List ℕ) (net : Net) (what : What) → IsReadable bytes net → IsTooLarge bytes what → ⊥
-readable_or_large bytes net what r l = within_or_past l.net what (subst IsWithin (one_network bytes net l.net r.is_file l.is_file) r.within) l.passes
+readable_or_large bytes net what r l = within_or_past l.net what (subst IsWithinLimits (one_network bytes net l.net r.is_file l.is_file) r.within) l.passes
 
 same_limit : (bytes : List ℕ) (a b : What) → IsTooLarge bytes a → IsTooLarge bytes b → a ≡ b
 same_limit bytes a b p q = one_limit q.net a b (subst (λ (net : Net). Passes net a) (one_network bytes p.net q.net p.is_file q.is_file) p.passes) q.passes
@@ -126,17 +126,17 @@ calls_for_one bytes =
 abbrev pub Told : List ℕ → Result Network InputFault → Type 0
 Told bytes r = (r ≡ Err NoMemory) ⊎ CallsFor bytes (answer_of r)
 
-told_fault : (bytes : List ℕ) (e : InputFault) → Gives (Err e) (flow_of bytes) → Told bytes (Err e)
+told_fault : (bytes : List ℕ) (e : InputFault) → AnswersReading (Err e) (flow_of bytes) → Told bytes (Err e)
 told_fault bytes (Line k) h = inr (first_fault bytes k h)
 told_fault bytes (Large what) h = absurd h
 told_fault bytes NoMemory h = inl refl
 
-pub told_refusal : (bytes : List ℕ) (read r : Result Network InputFault) (e : InputFault) → Gives read (flow_of bytes) → read ≡ Err e → r ≡ Err e → Told bytes r
-told_refusal bytes read r e gives is same = subst (Told bytes) (sym same) (told_fault bytes e (subst (λ (x : Result Network InputFault). Gives x (flow_of bytes)) is gives))
+pub told_refusal : (bytes : List ℕ) (read r : Result Network InputFault) (e : InputFault) → AnswersReading read (flow_of bytes) → read ≡ Err e → r ≡ Err e → Told bytes r
+told_refusal bytes read r e gives is same = subst (Told bytes) (sym same) (told_fault bytes e (subst (λ (x : Result Network InputFault). AnswersReading x (flow_of bytes)) is gives))
 
-pub told_network : (bytes : List ℕ) (read r : Result Network InputFault) (net : Network) → Gives read (flow_of bytes) → read ≡ Ok net → answer_of r ≡ sized (view net) → Told bytes r
+pub told_network : (bytes : List ℕ) (read r : Result Network InputFault) (net : Network) → AnswersReading read (flow_of bytes) → read ≡ Ok net → answer_of r ≡ sized (view net) → Told bytes r
 told_network bytes read r net gives is same =
-    let h : flow_of bytes ≡ Ok (view net) = subst (λ (x : Result Network InputFault). Gives x (flow_of bytes)) is gives in
+    let h : flow_of bytes ≡ Ok (view net) = subst (λ (x : Result Network InputFault). AnswersReading x (flow_of bytes)) is gives in
     inr (subst (CallsFor bytes) (sym same) (sized_calls bytes (view net) (read_flow bytes (view net) h)))
 
 pub told_only : (bytes : List ℕ) (r : Result Network InputFault) → Told bytes r → (answer : Result Net InputFault) → CallsFor bytes answer → (r ≡ Err NoMemory) ⊎ (answer_of r ≡ answer)

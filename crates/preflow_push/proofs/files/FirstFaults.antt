@@ -9,36 +9,36 @@ use Rattle.preflow_push.specs.declared.network.Arc as arcs
 use Rattle.text_lines.specs.Lines.{lines_of}
 use Rattle.text_lines.specs.Numbers.{number_of, digits_value_of}
 use Rattle.preflow_push.specs.FlowLines.{said_by}
-use Rattle.preflow_push.specs.FlowReading.{State, at_first, may_stand, step, whole, ended, then_read, read_from, flow_of}
+use Rattle.preflow_push.specs.FlowReading.{FileState, at_first, may_be_terminal, step, whole, ended, then_read, read_from, flow_of}
 use Rattle.preflow_push.specs.Networks.{Net}
 use Rattle.preflow_push.specs.FlowFiles.{new_arc, AreFlow, CanGoOn, IsFirstFault}
 use Rattle.preflow_push.proofs.files.LineTests.{stand_so, go_so, free_so, eq_so, Stands}
 use Rattle.preflow_push.proofs.files.LineRuns.{then_after, after, st, Good, good_source, good_sink, good_arc, begins, is_flow, flow_read, read_is, whole_read}
 
-after_append : (xs ys : List Said) (s : State) → after (xs ++ ys) s ≡ then_after (after xs s) (after ys)
+after_append : (xs ys : List Said) (s : FileState) → after (xs ++ ys) s ≡ then_after (after xs s) (after ys)
 after_append [] ys s = refl
 after_append (x ∷ xs) ys s = over (step x s) xs ys (λ u. after_append xs ys u)
   where
-    over : (o : Option State) (xs ys : List Said) → ((u : State) → after (xs ++ ys) u ≡ then_after (after xs u) (after ys)) → then_after o (after (xs ++ ys)) ≡ then_after (then_after o (after xs)) (after ys)
+    over : (o : Option FileState) (xs ys : List Said) → ((u : FileState) → after (xs ++ ys) u ≡ then_after (after xs u) (after ys)) → then_after o (after (xs ++ ys)) ≡ then_after (then_after o (after xs)) (after ys)
     over None xs ys h = refl
     over (Some u) xs ys h = h u
 
 -- some lines lead from one state to the other
-record Reach (s t : State) : Type 0 where
+record Reach (s t : FileState) : Type 0 where
   lines : List (List ℕ)
   leads : after (map said_by lines) s ≡ Some t
 
-reach_then : (s t u : State) → Reach s t → Reach t u → Reach s u
+reach_then : (s t u : FileState) → Reach s t → Reach t u → Reach s u
 reach_then s t u p q = record {
   lines = p.lines ++ q.lines;
-  leads = ap (λ (xs : List Said). after xs s) (map-append said_by p.lines q.lines) ∙ after_append (map said_by p.lines) (map said_by q.lines) s ∙ ap (λ (o : Option State). then_after o (after (map said_by q.lines))) p.leads ∙ q.leads;
+  leads = ap (λ (xs : List Said). after xs s) (map-append said_by p.lines q.lines) ∙ after_append (map said_by p.lines) (map said_by q.lines) s ∙ ap (λ (o : Option FileState). then_after o (after (map said_by q.lines))) p.leads ∙ q.leads;
 }
 
-stay : (s : State) → Reach s s
+stay : (s : FileState) → Reach s s
 stay s = record { lines = []; leads = refl }
 
-one_line : (line : List ℕ) (said : Said) (s t : State) → said_by line ≡ said → step said s ≡ Some t → Reach s t
-one_line line said s t e h = record { lines = line ∷ []; leads = ap (λ (x : Said). then_after (step x s) (after [])) e ∙ ap (λ (o : Option State). then_after o (after [])) h }
+one_line : (line : List ℕ) (said : Said) (s t : FileState) → said_by line ≡ said → step said s ≡ Some t → Reach s t
+one_line line said s t e h = record { lines = line ∷ []; leads = ap (λ (x : Said). then_after (step x s) (after [])) e ∙ ap (λ (o : Option FileState). then_after o (after [])) h }
 
 first_problem : said_by (codes "p max 2 0") ≡ Problem 2 0
 unfolding number_of digits_value_of
@@ -85,7 +85,7 @@ with_source : (n m : ℕ) (a b : Option ℕ) (l : List arcs.Arc) → Good n m a 
 with_source n m (Some i) b l g = (i, stay (st n m (Some i) b l), g)
 with_source n m None b l g =
     let f = free_node n b g.enough in
-    let t : may_stand (Some (n, m)) None b f.id ≡ true = stand_so n m b f.id f.stands.node (free_so f.id b f.stands.free) in
+    let t : may_be_terminal (Some (n, m)) None b f.id ≡ true = stand_so n m b f.id f.stands.node (free_so f.id b f.stands.free) in
     let h : step (Source f.id) (st n m None b l) ≡ Some (st n m (Some f.id) b l) = rw t refl in (
       f.id,
       elim f.which [
@@ -99,7 +99,7 @@ with_sink : (n m : ℕ) (a b : Option ℕ) (l : List arcs.Arc) → Good n m a b 
 with_sink n m a (Some i) l g = (i, stay (st n m a (Some i) l), g)
 with_sink n m a None l g =
     let f = free_node n a g.enough in
-    let t : may_stand (Some (n, m)) None a f.id ≡ true = stand_so n m a f.id f.stands.node (free_so f.id a f.stands.free) in
+    let t : may_be_terminal (Some (n, m)) None a f.id ≡ true = stand_so n m a f.id f.stands.node (free_so f.id a f.stands.free) in
     let h : step (Sink f.id) (st n m a None l) ≡ Some (st n m a (Some f.id) l) = rw t refl in (
       f.id,
       elim f.which [
@@ -121,8 +121,8 @@ with_arcs (suc k) n m a b l e g =
     (rest.0, reach_then (st n m a b l) (st n m a b l2) (st n m a b rest.0) (one_line (codes "a 1 2 0") (Arc 1 2 0) (st n m a b l) (st n m a b l2) some_arc h) rest.1, rest.2)
 
 -- from each state that was reached, to a whole network
-record Ends (s : State) : Type 0 where
-  last : State
+record Ends (s : FileState) : Type 0 where
+  last : FileState
   net : Net
   reach : Reach s last
   is_whole : whole last ≡ Some net
@@ -150,21 +150,21 @@ ends_first =
     let e = ends_from 2 0 None None [] good_two in
     record { last = e.last; net = e.net; reach = reach_then at_first (st 2 0 None None []) e.last (one_line (codes "p max 2 0") (Problem 2 0) at_first (st 2 0 None None []) first_problem refl) e.reach; is_whole = e.is_whole }
 
-ends_at : (xs : List Said) (t : State) → after xs at_first ≡ Some t → Ends t
+ends_at : (xs : List Said) (t : FileState) → after xs at_first ≡ Some t → Ends t
 ends_at xs t h = elim (begins xs t h) [
   | inl e ↦ subst Ends (sym e) ends_first
   | inr b ↦ subst Ends (sym b.ran.is) (ends_from b.nodes b.count b.ran.source b.ran.sink b.ran.arcs b.ran.good)
 ]
 
-pub can_go_on : (lines : List (List ℕ)) (t : State) → after (map said_by lines) at_first ≡ Some t → CanGoOn lines
+pub can_go_on : (lines : List (List ℕ)) (t : FileState) → after (map said_by lines) at_first ≡ Some t → CanGoOn lines
 can_go_on lines t h =
     let e = ends_at (map said_by lines) t h in
     let all : after (map said_by (lines ++ e.reach.lines)) at_first ≡ Some e.last =
     ap (λ (xs : List Said). after xs at_first) (map-append said_by lines e.reach.lines) ∙ after_append (map said_by lines) (map said_by e.reach.lines) at_first
-    ∙ ap (λ (o : Option State). then_after o (after (map said_by e.reach.lines))) h ∙ e.reach.leads in
+    ∙ ap (λ (o : Option FileState). then_after o (after (map said_by e.reach.lines))) h ∙ e.reach.leads in
     (e.reach.lines, e.net, is_flow (map said_by (lines ++ e.reach.lines)) e.net (e.last, all, e.is_whole))
 
-came : (o : Option State) (ys : List Said) (t : State) → then_after o (after ys) ≡ Some t → o ≡ None → ⊥
+came : (o : Option FileState) (ys : List Said) (t : FileState) → then_after o (after ys) ≡ Some t → o ≡ None → ⊥
 came None ys t h e = cc
 came (Some s) ys t h e = cc
 
@@ -177,25 +177,25 @@ cannot_go_on lines h c =
 
 -- ---- where reading stops
 
-record Stops (xs : List Said) (s : State) (k j : ℕ) : Type 0 where
+record Stops (xs : List Said) (s : FileState) (k j : ℕ) : Type 0 where
   n : ℕ
   place : j ≡ k + n
   within : n ≤ length xs
-  before : (t : State) × (after (take n xs) s ≡ Some t)
+  before : (t : FileState) × (after (take n xs) s ≡ Some t)
   here : n < length xs → after (take (suc n) xs) s ≡ None
-  missing : n ≡ length xs → (t : State) × (after xs s ≡ Some t) × (whole t ≡ None)
+  missing : n ≡ length xs → (t : FileState) × (after xs s ≡ Some t) × (whole t ≡ None)
 
 ended_err : (o : Option Net) (k j : ℕ) → ended o k ≡ Err j → (o ≡ None) × (k ≡ j)
 ended_err None k j h = (refl, cc)
 ended_err (Some net) k j h = absurd cc
 
-stops_step : (o : Option State) (x : Said) (xs : List Said) (s : State) (k j : ℕ) → step x s ≡ o → ((u : State) → read_from xs (k + 1) u ≡ Err j → Stops xs u (k + 1) j) → then_read o k (read_from xs (k + 1)) ≡ Err j → Stops (x ∷ xs) s k j
+stops_step : (o : Option FileState) (x : Said) (xs : List Said) (s : FileState) (k j : ℕ) → step x s ≡ o → ((u : FileState) → read_from xs (k + 1) u ≡ Err j → Stops xs u (k + 1) j) → then_read o k (read_from xs (k + 1)) ≡ Err j → Stops (x ∷ xs) s k j
 stops_step None x xs s k j e others h =
     let same : k ≡ j = cc in
-    record { n = 0; place = omega arith; within = omega arith; before = (s, refl); here = λ lt. ap (λ (o : Option State). then_after o (after [])) e; missing = λ z. absurd (omega (arith, z)) }
+    record { n = 0; place = omega arith; within = omega arith; before = (s, refl); here = λ lt. ap (λ (o : Option FileState). then_after o (after [])) e; missing = λ z. absurd (omega (arith, z)) }
 stops_step (Some u) x xs s k j e others h =
     let r = others u h in
-    let go = λ (ys : List Said). ap (λ (o : Option State). then_after o (after ys)) e in
+    let go = λ (ys : List Said). ap (λ (o : Option FileState). then_after o (after ys)) e in
     record {
       n = suc r.n;
       place = omega (arith, r.place);
@@ -205,7 +205,7 @@ stops_step (Some u) x xs s k j e others h =
       missing = λ z. let m = r.missing (omega arith) in (m.0, go xs ∙ m.1, m.2);
     }
 
-stops : (xs : List Said) (k : ℕ) (s : State) (j : ℕ) → read_from xs k s ≡ Err j → Stops xs s k j
+stops : (xs : List Said) (k : ℕ) (s : FileState) (j : ℕ) → read_from xs k s ≡ Err j → Stops xs s k j
 stops [] k s j h =
     let e = ended_err (whole s) k j h in
     record { n = 0; place = omega (arith, e.1); within = omega arith; before = (s, refl); here = λ lt. absurd (omega (arith, lt)); missing = λ z. (s, refl, e.0) }
@@ -219,7 +219,7 @@ read_flow bytes net h = let xs = map said_by (lines_of bytes) in is_flow xs net 
 pub flow_is_read : (bytes : List ℕ) (net : Net) → AreFlow (lines_of bytes) net → flow_of bytes ≡ Ok net
 flow_is_read bytes net f = let xs = map said_by (lines_of bytes) in let r = flow_read xs net f in whole_read xs 1 at_first r.0 net r.1 r.2
 
-not_whole : (o : Option State) (t u : State) (net : Net) → o ≡ Some t → whole t ≡ None → o ≡ Some u → whole u ≡ Some net → ⊥
+not_whole : (o : Option FileState) (t u : FileState) (net : Net) → o ≡ Some t → whole t ≡ None → o ≡ Some u → whole u ≡ Some net → ⊥
 not_whole o t u net a b c d = let e : t ≡ u = cc in let f : whole u ≡ None = sym (ap whole e) ∙ b in cc
 
 pub first_fault : (bytes : List ℕ) (k : ℕ) → flow_of bytes ≡ Err k → IsFirstFault (lines_of bytes) k

@@ -7,49 +7,49 @@ use Rattle.std.proofs.lemmas.List.{append-nil}
 use Rattle.preflow_push.specs.declared.flow_lines.Said.{Said}
 use Rattle.preflow_push.specs.declared.flow_lines.Said.TheVariants.{Nothing, Problem, Source, Sink, Arc, Wrong}
 use Rattle.preflow_push.specs.declared.network.Arc as arcs
-use Rattle.preflow_push.specs.FlowReading.{State, at_first, may_stand, may_go, step, whole, whole_of, ended, then_read, read_from}
+use Rattle.preflow_push.specs.FlowReading.{FileState, at_first, may_be_terminal, may_go, step, whole, whole_of, ended, then_read, read_from}
 use Rattle.preflow_push.specs.Networks.{Net}
 use Rattle.preflow_push.specs.FlowFiles.{new_arc, spoken, sources, sinks, arcs_of, IsNode, IsOf, IsFlowOf}
 use Rattle.preflow_push.proofs.files.LineTests.{stand_is, stand_so, go_is, go_so, free_so, eq_so, Stands}
 
 -- ---- the state after some lines
 
-abbrev pub then_after : Option State → (State → Option State) → Option State
+abbrev pub then_after : Option FileState → (FileState → Option FileState) → Option FileState
 then_after None go_on = None
 then_after (Some s) go_on = go_on s
 
-abbrev pub after : List Said → State → Option State
+abbrev pub after : List Said → FileState → Option FileState
 after [] s = Some s
 after (said ∷ saids) s = then_after (step said s) (after saids)
 
 -- a step that was taken
-went : (b : Bool) (s t : State) (xs : List Said) → then_after (cond b (Some s) None) (after xs) ≡ Some t → (b ≡ true) × (after xs s ≡ Some t)
+went : (b : Bool) (s t : FileState) (xs : List Said) → then_after (cond b (Some s) None) (after xs) ≡ Some t → (b ≡ true) × (after xs s ≡ Some t)
 went true s t xs h = (refl, h)
 went false s t xs h = absurd cc
 
 -- ---- reading, by the state after the lines
 
-whole_step : (o : Option State) (xs : List Said) (k : ℕ) (t : State) (net : Net) → ((u : State) → after xs u ≡ Some t → read_from xs (k + 1) u ≡ Ok net) → then_after o (after xs) ≡ Some t → then_read o k (read_from xs (k + 1)) ≡ Ok net
+whole_step : (o : Option FileState) (xs : List Said) (k : ℕ) (t : FileState) (net : Net) → ((u : FileState) → after xs u ≡ Some t → read_from xs (k + 1) u ≡ Ok net) → then_after o (after xs) ≡ Some t → then_read o k (read_from xs (k + 1)) ≡ Ok net
 whole_step None xs k t net others h = absurd cc
 whole_step (Some u) xs k t net others h = others u h
 
-pub whole_read : (xs : List Said) (k : ℕ) (s t : State) (net : Net) → after xs s ≡ Some t → whole t ≡ Some net → read_from xs k s ≡ Ok net
-whole_read [] k s t net h w = let e : s ≡ t = cc in ap (λ (u : State). ended (whole u) k) e ∙ rw w refl
+pub whole_read : (xs : List Said) (k : ℕ) (s t : FileState) (net : Net) → after xs s ≡ Some t → whole t ≡ Some net → read_from xs k s ≡ Ok net
+whole_read [] k s t net h w = let e : s ≡ t = cc in ap (λ (u : FileState). ended (whole u) k) e ∙ rw w refl
 whole_read (x ∷ xs) k s t net h w = whole_step (step x s) xs k t net (λ u g. whole_read xs (k + 1) u t net g w) h
 
 -- the lines lead to a state with the whole network
-abbrev pub Reads : Option State → Net → Type 0
-Reads o net = (t : State) × (o ≡ Some t) × (whole t ≡ Some net)
+abbrev pub Reads : Option FileState → Net → Type 0
+Reads o net = (t : FileState) × (o ≡ Some t) × (whole t ≡ Some net)
 
 ended_ok : (o : Option Net) (k : ℕ) (net : Net) → ended o k ≡ Ok net → o ≡ Some net
 ended_ok None k net h = absurd cc
 ended_ok (Some n) k net h = cc
 
-read_step : (o : Option State) (xs : List Said) (k : ℕ) (net : Net) → ((u : State) → read_from xs (k + 1) u ≡ Ok net → Reads (after xs u) net) → then_read o k (read_from xs (k + 1)) ≡ Ok net → Reads (then_after o (after xs)) net
+read_step : (o : Option FileState) (xs : List Said) (k : ℕ) (net : Net) → ((u : FileState) → read_from xs (k + 1) u ≡ Ok net → Reads (after xs u) net) → then_read o k (read_from xs (k + 1)) ≡ Ok net → Reads (then_after o (after xs)) net
 read_step None xs k net others h = absurd cc
 read_step (Some u) xs k net others h = others u h
 
-pub read_is : (xs : List Said) (k : ℕ) (s : State) (net : Net) → read_from xs k s ≡ Ok net → Reads (after xs s) net
+pub read_is : (xs : List Said) (k : ℕ) (s : FileState) (net : Net) → read_from xs k s ≡ Ok net → Reads (after xs s) net
 read_is [] k s net h = (s, refl, ended_ok (whole s) k net h)
 read_is (x ∷ xs) k s net h = read_step (step x s) xs k net (λ u g. read_is xs (k + 1) u net g) h
 
@@ -59,7 +59,7 @@ abbrev pub listed : Option ℕ → List ℕ
 listed None = []
 listed (Some id) = id ∷ []
 
-abbrev pub st : ℕ → ℕ → Option ℕ → Option ℕ → List arcs.Arc → State
+abbrev pub st : ℕ → ℕ → Option ℕ → Option ℕ → List arcs.Arc → FileState
 st n m a b l = record { problem = Some (n, m); source = a; sink = b; arcs = l }
 
 pub record Good (n m : ℕ) (a b : Option ℕ) (l : List arcs.Arc) : Type 0 where
@@ -69,7 +69,7 @@ pub record Good (n m : ℕ) (a b : Option ℕ) (l : List arcs.Arc) : Type 0 wher
   pub differ : (i j : ℕ) → a ≡ Some i → b ≡ Some j → i ≡ j → ⊥
   pub room : length l ≤ m
 
-pub record Ran (n m : ℕ) (a b : Option ℕ) (l : List arcs.Arc) (xs : List Said) (t : State) : Type 0 where
+pub record Ran (n m : ℕ) (a b : Option ℕ) (l : List arcs.Arc) (xs : List Said) (t : FileState) : Type 0 where
   pub source : Option ℕ
   pub sink : Option ℕ
   pub arcs : List arcs.Arc
@@ -104,19 +104,19 @@ good_sink n m a b l id g s = record {
 pub good_arc : (n m : ℕ) (a b : Option ℕ) (l : List arcs.Arc) (x : arcs.Arc) → Good n m a b l → length l < m → Good n m a b (l ++ x ∷ [])
 good_arc n m a b l x g lt = record { enough = g.enough; source = g.source; sink = g.sink; differ = g.differ; room = omega (arith, length-append l (x ∷ [])) }
 
-pub runs : (n m : ℕ) (a b : Option ℕ) (l : List arcs.Arc) (xs : List Said) (t : State) → Good n m a b l → after xs (st n m a b l) ≡ Some t → Ran n m a b l xs t
+pub runs : (n m : ℕ) (a b : Option ℕ) (l : List arcs.Arc) (xs : List Said) (t : FileState) → Good n m a b l → after xs (st n m a b l) ≡ Some t → Ran n m a b l xs t
 runs n m a b l [] t g h = record { source = a; sink = b; arcs = l; is = cc; each = tt; sources_are = append-nil (listed a); sinks_are = append-nil (listed b); arcs_are = append-nil l; good = g }
 runs n m a b l (Nothing ∷ xs) t g h =
     let r = runs n m a b l xs t g h in
     record { source = r.source; sink = r.sink; arcs = r.arcs; is = r.is; each = r.each; sources_are = r.sources_are; sinks_are = r.sinks_are; arcs_are = r.arcs_are; good = r.good }
 runs n m a b l (Problem p q ∷ xs) t g h = absurd cc
 runs n m a b l (Source id ∷ xs) t g h =
-    let w = went (may_stand (Some (n, m)) a b id) (st n m (Some id) b l) t xs h in
+    let w = went (may_be_terminal (Some (n, m)) a b id) (st n m (Some id) b l) t xs h in
     let s = stand_is n m a b id w.0 in
     let r = runs n m (Some id) b l xs t (good_source n m a b l id g s) w.1 in
     record { source = r.source; sink = r.sink; arcs = r.arcs; is = r.is; each = (s.node, r.each); sources_are = ap (λ (o : Option ℕ). listed o ++ (id ∷ sources xs)) s.first ∙ r.sources_are; sinks_are = r.sinks_are; arcs_are = r.arcs_are; good = r.good }
 runs n m a b l (Sink id ∷ xs) t g h =
-    let w = went (may_stand (Some (n, m)) b a id) (st n m a (Some id) l) t xs h in
+    let w = went (may_be_terminal (Some (n, m)) b a id) (st n m a (Some id) l) t xs h in
     let s = stand_is n m b a id w.0 in
     let r = runs n m a (Some id) l xs t (good_sink n m a b l id g s) w.1 in
     record { source = r.source; sink = r.sink; arcs = r.arcs; is = r.is; each = (s.node, r.each); sources_are = r.sources_are; sinks_are = ap (λ (o : Option ℕ). listed o ++ (id ∷ sinks xs)) s.first ∙ r.sinks_are; arcs_are = r.arcs_are; good = r.good }
@@ -128,7 +128,7 @@ runs n m a b l (Arc from to c ∷ xs) t g h =
 runs n m a b l (Wrong ∷ xs) t g h = absurd cc
 
 -- lines that lead somewhere from the first: nothing so far, or a problem and what follows it
-pub record Begun (xs : List Said) (t : State) : Type 0 where
+pub record Begun (xs : List Said) (t : FileState) : Type 0 where
   pub nodes : ℕ
   pub count : ℕ
   pub rest : List Said
@@ -139,7 +139,7 @@ pub record Begun (xs : List Said) (t : State) : Type 0 where
 good_first : (n m : ℕ) → 2 ≤ n → Good n m None None []
 good_first n m h = record { enough = h; source = λ i e. absurd cc; sink = λ i e. absurd cc; differ = λ i j e f same. cc; room = omega arith }
 
-pub begins : (xs : List Said) (t : State) → after xs at_first ≡ Some t → (t ≡ at_first) ⊎ Begun xs t
+pub begins : (xs : List Said) (t : FileState) → after xs at_first ≡ Some t → (t ≡ at_first) ⊎ Begun xs t
 begins [] t h = inl cc
 begins (Nothing ∷ xs) t h = elim (begins xs t h) [
   | inl e ↦ inl e
@@ -256,7 +256,7 @@ same_listed None (Some y) h = absurd cc
 same_listed (Some x) None h = absurd cc
 same_listed (Some x) (Some y) h = let e : x ≡ y = cc in ap (λ (i : ℕ). Some i) e
 
-taken : (b : Bool) (s : State) (xs : List Said) → b ≡ true → then_after (cond b (Some s) None) (after xs) ≡ after xs s
+taken : (b : Bool) (s : FileState) (xs : List Said) → b ≡ true → then_after (cond b (Some s) None) (after xs) ≡ after xs s
 taken b s xs e = rw e refl
 
 pub leads : (n m : ℕ) (a b y z : Option ℕ) (l : List arcs.Arc) (xs : List Said) → AllByRecursion (IsOf n) (spoken xs) → listed a ++ sources xs ≡ listed y → listed b ++ sinks xs ≡ listed z → Apart y z → length l + length (arcs_of xs) ≤ m
@@ -270,15 +270,15 @@ leads n m a b y z l (Problem p q ∷ xs) each hy hz apart room = absurd each.0
 leads n m a b y z l (Source id ∷ xs) each hy hz apart room =
     let e = none_yet a y id (sources xs) hy in
     let free = free_so id b (λ j eb same. apart id j e.1 (stays b z (sinks xs) j hz eb) same) in
-    let stand : may_stand (Some (n, m)) a b id ≡ true = ap (λ (o : Option ℕ). may_stand (Some (n, m)) o b id) e.0 ∙ stand_so n m b id each.0 free in
+    let stand : may_be_terminal (Some (n, m)) a b id ≡ true = ap (λ (o : Option ℕ). may_be_terminal (Some (n, m)) o b id) e.0 ∙ stand_so n m b id each.0 free in
     let hy2 : listed (Some id) ++ sources xs ≡ listed y = sym (ap (λ (o : Option ℕ). listed o ++ (id ∷ sources xs)) e.0) ∙ hy in
-    taken (may_stand (Some (n, m)) a b id) (st n m (Some id) b l) xs stand ∙ leads n m (Some id) b y z l xs each.1 hy2 hz apart room
+    taken (may_be_terminal (Some (n, m)) a b id) (st n m (Some id) b l) xs stand ∙ leads n m (Some id) b y z l xs each.1 hy2 hz apart room
 leads n m a b y z l (Sink id ∷ xs) each hy hz apart room =
     let e = none_yet b z id (sinks xs) hz in
     let free = free_so id a (λ j ea same. apart j id (stays a y (sources xs) j hy ea) e.1 (sym same)) in
-    let stand : may_stand (Some (n, m)) b a id ≡ true = ap (λ (o : Option ℕ). may_stand (Some (n, m)) o a id) e.0 ∙ stand_so n m a id each.0 free in
+    let stand : may_be_terminal (Some (n, m)) b a id ≡ true = ap (λ (o : Option ℕ). may_be_terminal (Some (n, m)) o a id) e.0 ∙ stand_so n m a id each.0 free in
     let hz2 : listed (Some id) ++ sinks xs ≡ listed z = sym (ap (λ (o : Option ℕ). listed o ++ (id ∷ sinks xs)) e.0) ∙ hz in
-    taken (may_stand (Some (n, m)) b a id) (st n m a (Some id) l) xs stand ∙ leads n m a (Some id) y z l xs each.1 hy hz2 apart room
+    taken (may_be_terminal (Some (n, m)) b a id) (st n m a (Some id) l) xs stand ∙ leads n m a (Some id) y z l xs each.1 hy hz2 apart room
 leads n m a b y z l (Arc from to c ∷ xs) each hy hz apart room =
     let go = go_so n m (length l) from to c (record { fewer = omega (arith, room); joins = each.0 }) in
     let more = leads n m a b y z (l ++ new_arc from to c ∷ []) xs each.1 hy hz apart (arcs_room l (new_arc from to c) (length (arcs_of xs)) m room) in
@@ -300,7 +300,7 @@ starts (Problem p q ∷ xs) n m rest h enough =
     let eq : q ≡ m = cc in
     let er : spoken xs ≡ rest = cc in
     let t : leb 2 p ≡ true = le-leb 2 p (rw ep enough) in
-    record { others = xs; spoken_is = er; leads = taken (leb 2 p) (st p q None None []) xs t ∙ ap (λ (s : State). after xs s) (ap (λ (x : ℕ). st x q None None []) ep ∙ ap (λ (x : ℕ). st n x None None []) eq) }
+    record { others = xs; spoken_is = er; leads = taken (leb 2 p) (st p q None None []) xs t ∙ ap (λ (s : FileState). after xs s) (ap (λ (x : ℕ). st x q None None []) ep ∙ ap (λ (x : ℕ). st n x None None []) eq) }
 starts (Source id ∷ xs) n m rest h enough = absurd cc
 starts (Sink id ∷ xs) n m rest h enough = absurd cc
 starts (Arc from to c ∷ xs) n m rest h enough = absurd cc

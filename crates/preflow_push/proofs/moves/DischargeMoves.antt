@@ -17,7 +17,7 @@ use Rattle.preflow_push.specs.declared.stages.Stage.{Stage}
 use Rattle.preflow_push.specs.declared.stages.Stage.TheVariants as stages
 use Rattle.preflow_push.specs.declared.discharge.Discharge.{Discharge}
 use Rattle.preflow_push.specs.FlowCalls.{rooms, room_of, call_of, relabel, flow, height, send}
-use Rattle.preflow_push.specs.Discharge.{rise, along, residual, lesser, with_flow, with_height, sending, sent_along, is_just_above, after_gains, push_unless, unless_spent, is_terminal}
+use Rattle.preflow_push.specs.Discharge.{rise, along, residual, lesser, after_flow, after_height, sending, sent_along, is_just_above, after_gains, push_unless, unless_spent, is_terminal}
 use Rattle.preflow_push.specs.Stages.{acts_over}
 use Rattle.preflow_push.specs.Discharges.{MovesTo, ends_of, lists_of, rest_of, acts_of, onward_of, acts_onward}
 
@@ -83,24 +83,24 @@ stays d walk e is = end_by d walk walk.least _ (drop_none _ walk.at e) is
 -- after the flow f of an arc
 pub no_residual : (d : Discharge) (walk : Walk) (arc : Touch) (f : ℤ) (act : Act) (stage : Stage) → int_le (residual arc f) (pos 0) ≡ true
     → MovesTo d (onward_of d walk walk.excess walk.least) (acts_onward d walk) act stage
-    → MovesTo d (with_flow (ends_of d) walk.node walk.height arc f walk.excess walk.least (onward_of d walk)) (acts_onward d walk + 5) act stage
+    → MovesTo d (after_flow (ends_of d) walk.node walk.height arc f walk.excess walk.least (onward_of d walk)) (acts_onward d walk + 5) act stage
 no_residual d walk arc f act stage e moves = moves_if_true _ _ _ _ act stage e (moves_within _ _ _ act stage (omega arith) moves)
 
 pub some_residual : (d : Discharge) (walk : Walk) (arc : Touch) (f r : ℤ) (act : Act) → r ≡ residual arc f → int_le r (pos 0) ≡ false → act ≡ acts.Call (room_of arc.other) (height arc.other)
-    → MovesTo d (with_flow (ends_of d) walk.node walk.height arc f walk.excess walk.least (onward_of d walk)) (acts_onward d walk + 5) act (stages.AfterOther walk arc r)
+    → MovesTo d (after_flow (ends_of d) walk.node walk.height arc f walk.excess walk.least (onward_of d walk)) (acts_onward d walk + 5) act (stages.AfterOther walk arc r)
 some_residual d walk arc f r act is e called =
     moves_if_false _ _ _ _ act _ (subst (λ (z : ℤ). int_le z (pos 0) ≡ false) is e)
-    (calls d arc.other _ _ _ act _ called (λ reply. ap (λ (z : ℤ). with_height (ends_of d) walk.node walk.height arc z reply.p walk.excess walk.least (onward_of d walk)) is) (omega arith))
+    (calls d arc.other _ _ _ act _ called (λ reply. ap (λ (z : ℤ). after_height (ends_of d) walk.node walk.height arc z reply.p walk.excess walk.least (onward_of d walk)) is) (omega arith))
 
 -- after the height k of the other end
 pub not_just_above : (d : Discharge) (walk : Walk) (arc : Touch) (r k : ℤ) (act : Act) (stage : Stage) → is_just_above walk.height k ≡ false
     → MovesTo d (onward_of d walk walk.excess (Some (lesser walk.least k))) (acts_onward d walk) act stage
-    → MovesTo d (with_height (ends_of d) walk.node walk.height arc r k walk.excess walk.least (onward_of d walk)) (acts_onward d walk + 4) act stage
+    → MovesTo d (after_height (ends_of d) walk.node walk.height arc r k walk.excess walk.least (onward_of d walk)) (acts_onward d walk + 4) act stage
 not_just_above d walk arc r k act stage e moves = moves_if_false _ _ _ _ act stage e (moves_within _ _ _ act stage (omega arith) moves)
 
 pub just_above : (d : Discharge) (walk : Walk) (arc : Touch) (r k x : ℤ) (act : Act) → is_just_above walk.height k ≡ true → x ≡ int_min walk.excess r
     → act ≡ acts.Call (room_of arc.number) (send arc.number (sent_along arc x))
-    → MovesTo d (with_height (ends_of d) walk.node walk.height arc r k walk.excess walk.least (onward_of d walk)) (acts_onward d walk + 4) act (stages.AfterSend walk arc x)
+    → MovesTo d (after_height (ends_of d) walk.node walk.height arc r k walk.excess walk.least (onward_of d walk)) (acts_onward d walk + 4) act (stages.AfterSend walk arc x)
 just_above d walk arc r k x act e is called =
     moves_if_true _ _ _ _ act _ e
     (subst (λ (z : ℤ). MovesTo d (sending (ends_of d) walk.node walk.height arc z walk.excess walk.least (onward_of d walk)) (acts_onward d walk + 4) act (stages.AfterSend walk arc x)) is

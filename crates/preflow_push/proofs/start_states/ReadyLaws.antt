@@ -15,7 +15,7 @@ use Rattle.preflow_push.specs.declared.flow_lines.Said.{Said}
 use Rattle.preflow_push.specs.declared.flow_lines.Said.TheVariants.{Nothing, Problem, Source, Sink, Arc as ArcLine, Wrong}
 use Rattle.preflow_push.specs.Networks.{Net}
 use Rattle.preflow_push.specs.Discharge.{node_item, is_node, is_terminal, terminals}
-use Rattle.preflow_push.specs.FlowFiles.{IsOf, IsFlowFile, arcs_of}
+use Rattle.preflow_push.specs.FlowFiles.{most_capacity, IsOf, IsFlowFile, arcs_of}
 use Rattle.preflow_push.specs.FlowLimits.{most_arcs, IsReadable}
 use Rattle.preflow_push.specs.FlowStates.{excess_in, flow_in}
 use Rattle.preflow_push.specs.Starts.{is_active, nodes_to, start_states, start_ready}
@@ -128,9 +128,9 @@ starts net fits = record {
 
 -- a capacity of a flow file
 abbrev IsSmallArc : Arc → Type 0
-IsSmallArc arc = (pos 0 ≤ℤ arc.cap) × (arc.cap ≤ℤ pos 1000000000)
+IsSmallArc arc = (pos 0 ≤ℤ arc.cap) × (arc.cap ≤ℤ pos most_capacity)
 
-small_cap : (cap : ℕ) → cap ≤ 1000000000 → (pos 0 ≤ℤ pos cap) × (pos cap ≤ℤ pos 1000000000)
+small_cap : (cap : ℕ) → cap ≤ most_capacity → (pos 0 ≤ℤ pos cap) × (pos cap ≤ℤ pos most_capacity)
 small_cap cap le = (omega (arith, ints), omega (arith, ints))
 
 small_arcs : (nodes : ℕ) (saids : List Said) → AllByRecursion (IsOf nodes) saids → AllByRecursion IsSmallArc (arcs_of saids)
@@ -149,7 +149,7 @@ fits_by : (z : ℤ) (k : ℕ) → k < 2 ^ 63 → neg_ℤ (pos k) ≤ℤ z → z 
 fits_by z k lt low high = omega (arith, ints)
 
 arc_fits : (arc : Arc) → IsSmallArc arc → FitsSigned w64 arc.cap
-arc_fits arc small = let low = small.0 in fits_by arc.cap 1000000000 (omega arith) (omega (arith, ints, low)) small.1
+arc_fits arc small = let low = small.0 in fits_by arc.cap most_capacity (omega arith) (omega (arith, ints, low)) small.1
 
 arcs_fit : (arcs : List Arc) → AllByRecursion IsSmallArc arcs → AllByRecursion (λ (arc : Arc). FitsSigned w64 arc.cap) arcs
 arcs_fit [] small = tt
@@ -159,11 +159,11 @@ record IsBetween (k : ℕ) (z : ℤ) : Type 0 where
   pub low : neg_ℤ (pos k) ≤ℤ z
   pub high : z ≤ℤ pos k
 
-carried_small : (arc : Arc) (leaves : Bool) → IsSmallArc arc → (pos 0 ≤ℤ (if leaves then arc.cap else pos 0)) × ((if leaves then arc.cap else pos 0) ≤ℤ pos 1000000000)
+carried_small : (arc : Arc) (leaves : Bool) → IsSmallArc arc → (pos 0 ≤ℤ (if leaves then arc.cap else pos 0)) × ((if leaves then arc.cap else pos 0) ≤ℤ pos most_capacity)
 carried_small arc true small = small
 carried_small arc false small = (omega (arith, ints), omega (arith, ints))
 
-brought_by : (x : ℤ) (to from : Bool) → pos 0 ≤ℤ x → x ≤ℤ pos 1000000000 → IsBetween 1000000000 ((if to then x else pos 0) -ℤ (if from then x else pos 0))
+brought_by : (x : ℤ) (to from : Bool) → pos 0 ≤ℤ x → x ≤ℤ pos most_capacity → IsBetween most_capacity ((if to then x else pos 0) -ℤ (if from then x else pos 0))
 brought_by x true true low high = record { low = omega (arith, ints); high = omega (arith, ints) }
 brought_by x true false low high = record { low = omega (arith, ints); high = omega (arith, ints) }
 brought_by x false true low high = record { low = omega (arith, ints); high = omega (arith, ints) }
@@ -172,18 +172,18 @@ brought_by x false false low high = record { low = omega (arith, ints); high = o
 sum_between : (a b c : ℕ) (x y : ℤ) → c ≡ a + b → IsBetween a x → IsBetween b y → IsBetween c (x +ℤ y)
 sum_between a b c x y e p q = let low = p.low in let high = p.high in let lower = q.low in let higher = q.high in record { low = omega (arith, ints); high = omega (arith, ints) }
 
-balance_small : (source : ℤ) (flows : ℤ → ℤ) (q : ℤ) (n : ℕ) (arcs : List Arc) → AreCarried source flows n arcs → AllByRecursion IsSmallArc arcs → IsBetween (length arcs * 1000000000) (balance flows q n arcs)
+balance_small : (source : ℤ) (flows : ℤ → ℤ) (q : ℤ) (n : ℕ) (arcs : List Arc) → AreCarried source flows n arcs → AllByRecursion IsSmallArc arcs → IsBetween (length arcs * most_capacity) (balance flows q n arcs)
 balance_small source flows q n [] flow small = record { low = omega (arith, ints); high = omega (arith, ints) }
 balance_small source flows q n (arc ∷ arcs) flow small =
     let range = carried_small arc (int_eq arc.from source) small.0 in
-    let first : IsBetween 1000000000 (brought q arc (carried source arc)) = brought_by (carried source arc) (int_eq q arc.to) (int_eq q arc.from) range.0 range.1 in
-    let here : IsBetween 1000000000 (brought q arc (flows (pos n))) = subst (λ (x : ℤ). IsBetween 1000000000 (brought q arc x)) (sym flow.0) first in
-    sum_between 1000000000 (length arcs * 1000000000) (suc (length arcs) * 1000000000) (brought q arc (flows (pos n))) (balance flows q (suc n) arcs) (omega arith) here (balance_small source flows q (suc n) arcs flow.1 small.1)
+    let first : IsBetween most_capacity (brought q arc (carried source arc)) = brought_by (carried source arc) (int_eq q arc.to) (int_eq q arc.from) range.0 range.1 in
+    let here : IsBetween most_capacity (brought q arc (flows (pos n))) = subst (λ (x : ℤ). IsBetween most_capacity (brought q arc x)) (sym flow.0) first in
+    sum_between most_capacity (length arcs * most_capacity) (suc (length arcs) * most_capacity) (brought q arc (flows (pos n))) (balance flows q (suc n) arcs) (omega arith) here (balance_small source flows q (suc n) arcs flow.1 small.1)
 
 pub excesses-read : (bytes : List ℕ) (net : Net) → IsReadable bytes net → (node : ℤ) → excess_in (start_states net) node ≡ balance (flow_in (start_states net)) node 1 net.arcs
 excesses-read bytes net r node =
     let small = file_arcs bytes net r.is_file in
     let total = balance (flow_in (start_states net)) node 1 net.arcs in
-    let between : IsBetween (length net.arcs * 1000000000) total = balance_small net.source (flow_in (start_states net)) node 1 net.arcs (flows-start net) small in
+    let between : IsBetween (length net.arcs * most_capacity) total = balance_small net.source (flow_in (start_states net)) node 1 net.arcs (flows-start net) small in
     let few = r.within.arcs in
-    excesses-start net node (arcs_fit net.arcs small) ∙ int_wrap_fits w64 total (fits_by total (length net.arcs * 1000000000) (omega (arith, few)) between.low between.high)
+    excesses-start net node (arcs_fit net.arcs small) ∙ int_wrap_fits w64 total (fits_by total (length net.arcs * most_capacity) (omega (arith, few)) between.low between.high)

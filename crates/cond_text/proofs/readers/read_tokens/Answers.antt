@@ -2,7 +2,7 @@ use Rattle.std.proofs.Common.{[], ◌∙◌, refl, arith}
 use Rattle.std.proofs.lemmas.Result.{err_from_is_err_and}
 use Rattle.gx_base.specs.Kinds.{kind_number}
 use Rattle.cond_text.specs.Machine.{Operand}
-use Rattle.cond_text.specs.Readers.{IsRead}
+use Rattle.cond_text.specs.Readers.{HasReached}
 use Rattle.cond_text.proofs.reading.SourceLemmas.{IsLater-then}
 use Rattle.cond_text.proofs.reading.ReaderLemmas.{stops_whole, ended_whole}
 use Rattle.cond_text.proofs.readers.read_tokens.Goals as goal
@@ -15,7 +15,7 @@ pub loop-token-preserved : goal.loop-token-preserved
 loop-token-preserved c =
     let before = c.loop-token.invariant in
     let kind = c.in-Read.ensures.later.kind ∙ before.0.kind in
-    let read : IsRead (kind_number c.next.new.self.kind) c.loop-token.reader before.1.0 = rw kind before.1.1 in
+    let read : HasReached (kind_number c.next.new.self.kind) c.loop-token.reader before.1.0 = rw kind before.1.1 in
     let led = c.in_ok-reader-in-Read.ensures.leads before.1.0 read in
     let later = IsLater-then _ _ _ (IsLater-then _ _ _ before.0 c.in-Read.ensures.later) c.in_ok-reader-in-Read.ensures.later in
     (later, (led.0, rw kind at led.1, before.1.2 ∙ c.in-Read.ensures.next.0 before.1.0 ∙ led.2))
@@ -24,7 +24,7 @@ pub returns-in_err-reader-in-Read-clause-whole : goal.returns-in_err-reader-in-R
 returns-in_err-reader-in-Read-clause-whole c =
     let before = c.loop-token.invariant in
     let kind = c.in-Read.ensures.later.kind ∙ before.0.kind in
-    let read : IsRead (kind_number c.next.new.self.kind) c.loop-token.reader before.1.0 = rw kind before.1.1 in
+    let read : HasReached (kind_number c.next.new.self.kind) c.loop-token.reader before.1.0 = rw kind before.1.1 in
     let stops = c.in_err-reader-in-Read.ensures.leads before.1.0 read in
     let p = err_from_is_err_and c.from_residual.result c.from_residual.ensures.1 in
     rw (p.1, p.2) (stops_whole c.args.source.now c.next.new.self c.take.new.source _ c.in_err-reader-in-Read.field-0.0 (before.1.2 ∙ c.in-Read.ensures.next.0 before.1.0) stops c.in_err-reader-in-Read.ensures.stopped)

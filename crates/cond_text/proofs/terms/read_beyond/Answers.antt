@@ -1,6 +1,6 @@
 use Rattle.std.proofs.Common.{◌∙◌, refl}
 use Rattle.std.proofs.lemmas.Result.{err_from_is_err_and}
-use Rattle.cond_syntax.specs.Written.{Far}
+use Rattle.cond_syntax.specs.WrittenConditions.{Far}
 use Rattle.cond_text.specs.Machine.{OpenDue, FirstDue, FirstDone, SecondDue, SecondDone, ThirdDue, ThirdDone, term_done}
 use Rattle.cond_text.proofs.reading.SourceLemmas.{part_stops}
 use Rattle.cond_text.proofs.terms.read_beyond.Goals as goal

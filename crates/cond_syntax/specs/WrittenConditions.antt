@@ -23,16 +23,16 @@ pub data Comparison : Type 0 where
   IsAtMost : Comparison
 
 -- a condition as a tree
-pub data Written : Type 0 where
-  True : Written
-  False : Written
-  Compare : Comparison → (x y : WrittenTerm) → Written
-  And : (x y : Written) → Written
-  Or : (x y : Written) → Written
-  Not : (x : Written) → Written
+pub data WrittenCondition : Type 0 where
+  True : WrittenCondition
+  False : WrittenCondition
+  Compare : Comparison → (x y : WrittenTerm) → WrittenCondition
+  And : (x y : WrittenCondition) → WrittenCondition
+  Or : (x y : WrittenCondition) → WrittenCondition
+  Not : (x : WrittenCondition) → WrittenCondition
 
 -- how deep the tree is. An atom is 1 deep
-abbrev pub depth_of : Written → ℕ
+abbrev pub depth_of : WrittenCondition → ℕ
 depth_of True = 1
 depth_of False = 1
 depth_of (Compare op x y) = 1
@@ -125,7 +125,7 @@ negated (Some x) = Some (plain.Not x)
 negated None = None
 
 -- none where a word isn't known in its place
-abbrev pub condition_in : ℕ → Written → Option Condition
+abbrev pub condition_in : ℕ → WrittenCondition → Option Condition
 condition_in kind True = Some plain.True
 condition_in kind False = Some plain.False
 condition_in kind (Compare op x y) = compared op (term_of kind x) (term_of kind y)

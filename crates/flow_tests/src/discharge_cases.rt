@@ -1,12 +1,19 @@
 //! A network of four nodes, worked by hand.
 
-use crate::flow_calls::{flow_call, node_item};
-use crate::{Arc, Discharge, Network, report, start};
 use commit_book::{Commit, Operator};
 use flow_graph::{EXCESS, FLOW, FlowShard, GAIN, HEIGHT, RELABEL, SEND};
-use gx_base::{Act, Item, NoMemory, Reply, SeqType};
+use gx_base::{Act, Call, Item, NoMemory, Reply, SeqType};
+use preflow_push::{Arc, Discharge, Network, report, start};
 use std::alloc::Global;
 use std::test::Fail;
+
+fn flow_call(method: u32, number: i64, amount: i64) -> Call {
+    Call::new(method, number, amount, 0, 0)
+}
+
+fn node_item(node: i64) -> Item {
+    Item::new(node, 0, 0, 0)
+}
 
 /// From 1 to 4: arcs 1 and 2 leave the source, arc 5 joins the nodes between.
 fn four_nodes(alloc: Global) -> Result<Network, NoMemory> {
@@ -141,25 +148,47 @@ fn make(
     Ok(())
 }
 
+/// Rooms, the numbers of their nodes, and the heights and excesses there at the start.
+const AT_START: [(usize, i64, i64, i64); 4] = [
+    (1, 1, 4, -5),
+    (2, 2, 0, 3),
+    (3, 3, 0, 2),
+    (4, 4, 0, 0),
+];
+
 #[test]
 fn arcs_out_of_the_source_are_full(rt: HostRuntime) -> Result<(), Fail> {
     let net = four_nodes(rt.alloc())?;
-    let (mut shards, ready) = start(rt.alloc(), &net)?;
+    let (shards, ready) = start(rt.alloc(), &net)?;
     assert!(rt; ready.as_slice() == [node_item(2), node_item(3)].as_slice());
     assert_eq!(rt; shards.len(), 16);
-    assert_eq!(rt; shards[1].height(1), 4);
-    assert_eq!(rt; shards[2].height(2), 0);
-    assert_eq!(rt; shards[1].excess(1), -5);
-    assert_eq!(rt; shards[2].excess(2), 3);
-    assert_eq!(rt; shards[3].excess(3), 2);
+    for (room, node, height, excess) in AT_START {
+        assert_eq!(rt; shards[room].height(node), height);
+        assert_eq!(rt; shards[room].excess(node), excess);
+    }
+    Ok(())
+}
 
-    make(&mut shards, 3, SEND, 3, 2)?;
-    make(&mut shards, 5, SEND, 5, -7)?;
-    make(&mut shards, 4, GAIN, 4, 2)?;
+const REPORT: &[u8] = b"c i 2
+c i 3
+c i 2
+s 2
+f 1 2 3
+f 1 3 2
+f 2 4 2
+f 3 4 0
+f 2 3 -7
+";
+
+#[test]
+fn a_report_has_the_order_and_the_flows(rt: HostRuntime) -> Result<(), Fail> {
+    let net = four_nodes(rt.alloc())?;
+    let (mut shards, _ready) = start(rt.alloc(), &net)?;
+    for (room, method, number, amount) in [(3, SEND, 3, 2), (5, SEND, 5, -7), (4, GAIN, 4, 2)] {
+        make(&mut shards, room, method, number, amount)?;
+    }
     let order = [commit_of(2), commit_of(3), commit_of(2)];
     let text = report(rt.alloc(), &net, order.as_slice(), &shards)?;
-    let wanted =
-        b"c i 2\nc i 3\nc i 2\ns 2\nf 1 2 3\nf 1 3 2\nf 2 4 2\nf 3 4 0\nf 2 3 -7\n".as_slice();
-    assert!(rt; text.as_slice() == wanted);
+    assert!(rt; text.as_slice() == REPORT);
     Ok(())
 }

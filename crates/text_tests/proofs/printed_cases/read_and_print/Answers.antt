@@ -1,4 +1,4 @@
-use Rattle.cond_text.proofs.tables.tests.read_and_print.Goals as goal
+use Rattle.text_tests.proofs.printed_cases.read_and_print.Goals as goal
 
 pub returns : goal.returns
 returns c =

@@ -4,7 +4,7 @@ use Rattle.gx_base.specs.declared.calls.Reply.{Reply}
 use Rattle.gx_base.specs.States.{State}
 use Rattle.gx_base.specs.Steps.{next_state, reply_to, inverse, IsState, IsCall}
 use Rattle.gx_base.proofs.CallerLemmas.{undoes}
-use Rattle.flow_graph.proofs.tests.done_again.Goals as goal
+use Rattle.flow_tests.proofs.shard_cases.done_again.Goals as goal
 
 -- a call that was made and taken back leaves the state before it
 back : (s t u : State) (c : Call) (r : Reply) → IsState s → IsCall c → r ≡ reply_to s c → t ≡ next_state s c → u ≡ inverse t c r → u ≡ s

@@ -3,7 +3,7 @@
 ghost use Rattle.std.specs.Prelude.{◌≡◌, IfOk, OnOk};
 ghost use Rattle.gx_base.specs.Steps.{next_state, reply_to};
 
-use crate::{EXCESS, FLOW, FlowShard, GAIN, HEIGHT, RELABEL, SEND};
+use flow_graph::{EXCESS, FLOW, FlowShard, GAIN, HEIGHT, RELABEL, SEND};
 use gx_base::{Call, Choice, Kind, Made, NoMemory, Reply, Seen, SeqType, Table, eval};
 use std::test::Fail;
 
