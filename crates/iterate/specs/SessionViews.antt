@@ -22,7 +22,7 @@ pub record OpenCommit : Type 0 where
 pub record SessionView : Type 0 where
   pub worker : ℕ
   pub at : Session
-  pub open : Option OpenCommit
+  pub opened : Option OpenCommit
   pub pushed : List Item
 
 -- ---- views
@@ -48,13 +48,13 @@ log_of code.Finished log = log
 log_of (code.Committing book number left) log = steps_in left log
 log_of code.Undoing log = log
 
-abbrev pub open_of : {St : Type 0} → CodePhase St → Option OpenCommit
-open_of code.Idle = None
-open_of (code.Running st last) = None
-open_of (code.Asking st room call) = None
-open_of code.Finished = None
-open_of (code.Committing book number left) = Some (record { book = book; number = number; left = left })
-open_of code.Undoing = None
+abbrev pub opened_of : {St : Type 0} → CodePhase St → Option OpenCommit
+opened_of code.Idle = None
+opened_of (code.Running st last) = None
+opened_of (code.Asking st room call) = None
+opened_of code.Finished = None
+opened_of (code.Committing book number left) = Some (record { book = book; number = number; left = left })
+opened_of code.Undoing = None
 
 abbrev pub at_of : {O St : Type 0} → Rests St → CodeSession O St → Session
 at_of rest s = record {
@@ -66,4 +66,4 @@ at_of rest s = record {
 }
 
 abbrev pub view_of : {O St : Type 0} → Rests St → CodeSession O St → SessionView
-view_of rest s = record { worker = s.worker; at = at_of rest s; open = open_of s.phase; pushed = s.pushed.items }
+view_of rest s = record { worker = s.worker; at = at_of rest s; opened = opened_of s.phase; pushed = s.pushed.items }
