@@ -1,11 +1,12 @@
 -- Sessions of the code, as the machine has them.
-use Rattle.std.specs.Prelude.{ℕ, Option, Some, None, List, []}
+use Rattle.std.specs.Prelude.{ℕ, pos, Bool, Option, Some, None, List, []}
 use Rattle.gx_base.specs.declared.acts.Step.{Step}
 use Rattle.gx_base.specs.declared.calls.Reply.{Reply}
 use Rattle.gx_base.specs.declared.items.Item.{Item}
 use Rattle.gx_base.specs.Plans.{Plan, Call}
+use Rattle.gx_base.specs.Outcomes.{nothing_done}
 use Rattle.commit_book.specs.BookViews.{BookView}
-use Rattle.speculation.specs.Sessions.{Session, Phase, Idle, Running, Finished, Undoing}
+use Rattle.speculation.specs.Sessions.{Session, Phase, Idle, Running, Finished, Undoing, is_idle}
 use Rattle.iterate.specs.RoomLists.{steps_in}
 use Rattle.iterate.specs.declared.session.Session.{Session as CodeSession}
 use Rattle.iterate.specs.declared.session.Phase.{Phase as CodePhase}
@@ -67,3 +68,16 @@ at_of rest s = record {
 
 abbrev pub view_of : {O St : Type 0} → Rests St → CodeSession O St → SessionView
 view_of rest s = record { worker = s.worker; at = at_of rest s; opened = opened_of s.phase; pushed = s.pushed.items }
+
+-- a worker that has no iteration yet
+abbrev pub begun_view : ℕ → SessionView
+begun_view worker = record {
+  worker = worker;
+  at = record { phase = Idle; iter = 0; item = record { k0 = pos 0; k1 = pos 0; k2 = pos 0; k3 = pos 0 }; outcome = nothing_done; next_iter = 0 };
+  opened = None;
+  pushed = [];
+}
+
+-- it has no iteration
+abbrev pub is_idle_view : SessionView → Bool
+is_idle_view session = is_idle session.at.phase
