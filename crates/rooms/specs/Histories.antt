@@ -1,5 +1,5 @@
 -- The history of rooms in a vector, as it is kept for their contracts.
-use Rattle.std.specs.Prelude.{ℕ, true, false, List, [], ◌∷◌}
+use Rattle.std.specs.Prelude.{true, false, List, [], ◌∷◌}
 use Rattle.rooms.specs.Visits.{Move, Visits}
 use Rattle.rooms.specs.declared.history.History as history
 

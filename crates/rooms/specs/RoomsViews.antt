@@ -1,9 +1,8 @@
 -- What rooms tell their caller, and what entering and leaving one make of it.
-use Rattle.std.specs.Prelude.{◌≡◌, ◌⊎◌, ℕ, ◌+◌, ◌<◌, ◌≤◌, min, Bool, true, false, ◌&&◌, ◌==◌, if◌then◌else◌, Option, Some, None, List, length, filter, is_some}
+use Rattle.std.specs.Prelude.{ℕ, ◌+◌, Bool, true, false, ◌&&◌, ◌==◌, if◌then◌else◌, Option, Some, None, List, length, filter, is_some}
 use Rattle.gx_base.specs.declared.acts.Entry.{Entry}
-use Rattle.gx_base.specs.Outcomes.{WholeCommit}
 use Rattle.gx_base.specs.Replays.{put}
-use Rattle.gx_base.specs.RoomViews.{RoomView, Origin, OfGate, OfBook, is_book}
+use Rattle.gx_base.specs.RoomViews.{RoomView}
 
 -- The rooms are numbered from 0, and the last one is the book's. Functions from numbers are over rooms, but for `acts_for`,
 -- which is over workers.
@@ -75,11 +74,16 @@ abbrev pub told_with : {V : Type 0} → Option V → V → Option V
 told_with None value = None
 told_with (Some old) value = Some value
 
--- the value is the room's, and the caller holds the room no more
-abbrev pub left : {V : Type 0} → (V → RoomView) → RoomsView V → ℕ → V → RoomsView V
-left tells view room value = record view {
+-- the room has this value
+abbrev pub with_value : {V : Type 0} → (V → RoomView) → RoomsView V → ℕ → V → RoomsView V
+with_value tells view room value = record view {
   live = put view.live room (entries_for view.acts_for (tells value).live);
+  told = put view.told room (told_with (view.told room) value);
+}
+
+-- the room has this value, and the caller holds it no more
+abbrev pub left : {V : Type 0} → (V → RoomView) → RoomsView V → ℕ → V → RoomsView V
+left tells view room value = record (with_value tells view room value) {
   held = put view.held room None;
   released = released_with view room (tells value).mark;
-  told = put view.told room (told_with (view.told room) value);
 }
