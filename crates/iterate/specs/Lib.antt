@@ -4,3 +4,5 @@ pub mod Needs
 pub mod SharedTurns
 pub mod Places
 pub mod Turns
+pub mod EventViews
+pub mod Plays

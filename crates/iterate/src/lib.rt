@@ -6,10 +6,12 @@ mod calling;
 mod committing;
 mod entering;
 mod events;
+mod plays;
 mod releases;
 mod session;
 mod taking;
 mod undoing;
 
 pub use events::{Event, Stop, Turn};
+pub use plays::{Played, play};
 pub use session::Session;
