@@ -1,0 +1,7 @@
+//! Sessions over rooms that lose takes, and over many workers: worked cases, and random runs beside a model that is written
+//! down separately. But for the rooms it holds tests alone, so that no crate below is proved again with them.
+#![tactic(auto)]
+
+mod lossy_rooms;
+
+pub use lossy_rooms::LossyRooms;
