@@ -1,1 +1,2 @@
 mod LostTakes
+mod ScriptMoves

@@ -1,1 +1,2 @@
 pub mod LostTakes
+pub mod Scripts

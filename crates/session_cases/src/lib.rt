@@ -3,5 +3,7 @@
 #![tactic(auto)]
 
 mod lossy_rooms;
+mod scripts;
 
 pub use lossy_rooms::LossyRooms;
+pub use scripts::{Place, Scripts};
