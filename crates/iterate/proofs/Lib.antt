@@ -1,0 +1,3 @@
+pub mod Logs
+pub mod Standing
+pub mod Visiting

@@ -14,11 +14,29 @@ use Rattle.commit_book.specs.BookViews.{BookView, new_book}
 use Rattle.speculation.specs.Sessions.{Session, Phase, Idle, Running, Finished, Undoing}
 use Rattle.speculation.specs.Machines.{Place}
 use Rattle.rooms.specs.RoomsViews.{RoomsView, is_held, commits_entered}
-use Rattle.rooms.specs.Values.{tells}
 use Rattle.rooms.specs.declared.values.Value.{Value}
 use Rattle.rooms.specs.declared.values.Value.TheVariants.{Object, Book}
 use Rattle.iterate.specs.RoomLists.{is_among, steps_in}
 use Rattle.iterate.specs.SessionViews.{OpenCommit, SessionView}
+
+-- ---- values of rooms
+
+-- a gate without entries, over an empty set, with a table in which each two calls are in conflict
+abbrev pub no_gate : GateView
+no_gate = record { kind = 0; table = map.empty; state = no_state; done = []; live = []; mark = 0 }
+
+abbrev pub gate_of : {T S : Type 0} → Value T S → GateView
+gate_of (Object gate) = gate
+gate_of (Book book) = no_gate
+
+abbrev pub book_of : {T S : Type 0} → Value T S → BookView
+book_of (Object gate) = new_book false []
+book_of (Book book) = book
+
+-- what is told
+abbrev pub IfTold : {T S : Type 0} → Option (Value T S) → (Value T S → Type 0) → Type 0
+IfTold None P = ⊤
+IfTold (Some value) P = P value
 
 -- ---- what is asked of a session and its rooms
 
@@ -65,29 +83,14 @@ pub record IsFit {T S : Type 0} (op : Operator) (rooms : RoomsView (Value T S)) 
   pub acts : rooms.acts_for session.worker ≡ true
   pub book : rooms.book ≡ op.rooms
   pub ordered : rooms.ordered ≡ op.ordered
-  pub live : (room : ℕ) → IsLogOf room session (rooms.live room)
-  pub live_told : (room : ℕ) (value : Value T S) → rooms.told room ≡ Some value → IsLogOf room session (tells value).live
+  pub ordered_told : IfTold (rooms.told rooms.book) (λ value. (book_of value).ordered ≡ rooms.ordered)
+  -- the live entries of the worker, as the rooms tell them, and in the values that they tell
+  pub live : (room : ℕ) → room < rooms.book → IsLogOf room session (rooms.live room)
+  pub live_told : (room : ℕ) → room < rooms.book → IfTold (rooms.told room) (λ value. IsLogOf room session (gate_of value).live)
   pub within : AreWithin op.rooms session.at.outcome.steps
   pub doing : IsFitIn op rooms session session.opened
 
 -- ---- places
-
--- a gate without entries, over an empty set, with a table in which each two calls are in conflict
-abbrev pub no_gate : GateView
-no_gate = record { kind = 0; table = map.empty; state = no_state; done = []; live = []; mark = 0 }
-
-abbrev pub gate_of : {T S : Type 0} → Value T S → GateView
-gate_of (Object gate) = gate
-gate_of (Book book) = no_gate
-
-abbrev pub book_of : {T S : Type 0} → Value T S → BookView
-book_of (Object gate) = new_book false []
-book_of (Book book) = book
-
--- what is told
-abbrev pub IfTold : {T S : Type 0} → Option (Value T S) → (Value T S → Type 0) → Type 0
-IfTold None P = ⊤
-IfTold (Some value) P = P value
 
 -- the book is the one with the commit that is being made, or else the book's room has it
 abbrev pub IsBookIn : {T S : Type 0} → RoomsView (Value T S) → Option OpenCommit → BookView → Type 0
@@ -100,6 +103,6 @@ pub record StandsOn {T S : Type 0} (rooms : RoomsView (Value T S)) (session : Se
   pub session_is : p.session ≡ session.at
   pub gates : (room : ℕ) → room < rooms.book → IfTold (rooms.told room) (λ value. p.gates room ≡ gate_of value)
   pub no_others : (room : ℕ) → rooms.book ≤ room → p.gates room ≡ no_gate
-  pub logs : (room : ℕ) → IsLogOf room session (p.gates room).live
+  pub logs : (room : ℕ) → room < rooms.book → IsLogOf room session (p.gates room).live
   pub book : IsBookIn rooms session.opened p.book
   pub ordered : p.book.ordered ≡ rooms.ordered
