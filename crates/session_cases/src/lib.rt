@@ -1,7 +1,9 @@
 //! Sessions over rooms that lose takes, and over many workers: worked cases, and random runs beside a model that is written
-//! down separately. But for the rooms it holds tests alone, so that no crate below is proved again with them.
+//! down separately. But for the rooms and the bodies it holds tests alone, so that no crate below is proved again with them.
 #![tactic(auto)]
 
+#[cfg(test)]
+mod busy_cases;
 mod lossy_rooms;
 mod scripts;
 
