@@ -5,6 +5,14 @@
 #[cfg(test)]
 mod busy_cases;
 mod lossy_rooms;
+#[cfg(test)]
+mod networks;
+#[cfg(test)]
+mod plain_machine;
+#[cfg(test)]
+mod plain_rooms;
+#[cfg(test)]
+mod scheduled_cases;
 mod scripts;
 
 pub use lossy_rooms::LossyRooms;
