@@ -6,3 +6,4 @@ pub mod Places
 pub mod Turns
 pub mod EventViews
 pub mod Plays
+pub mod PlayedTurns
