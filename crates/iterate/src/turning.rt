@@ -7,7 +7,7 @@ ghost use Rattle.rooms.specs.RoomsViews.{is_held};
 ghost use Rattle.rooms.specs.Values.{tells};
 ghost use Rattle.rooms.specs.Visits.{AreTold, view_of as rooms_view};
 ghost use Rattle.iterate.specs.EventViews.{turns_of};
-ghost use Rattle.iterate.specs.Places.{IsFit};
+ghost use Rattle.iterate.specs.Places.{IsFit, book_of};
 ghost use Rattle.iterate.specs.PlayedTurns.{machine_of, sessions_of, MayAllTurn, TellsCall, TurnAnswers};
 ghost use Rattle.iterate.specs.Plays.{book_in};
 ghost use Rattle.iterate.specs.SessionViews.{view_of};
@@ -27,8 +27,17 @@ pub fn nothing_is_ready<T: SeqType, S: Screen<T>>(rooms: &VecRooms<Value<T, S>>)
     ensures { result ≡ is_empty (book_in ((rooms_view tells rooms.now).told (rooms_view tells rooms.now).book)).ready }
 {
     match rooms.values().get(rooms.book() as usize) {
-        Some(Value::Book(book)) => book.is_empty(),
-        _ => true,
+        Some(value) => has_nothing_ready(value),
+        None => true,
+    }
+}
+
+fn has_nothing_ready<T: SeqType, S: Screen<T>>(value: &Value<T, S>) -> bool
+    ensures { result ≡ is_empty (book_of value.now).ready }
+{
+    match value {
+        Value::Book(book) => book.is_empty(),
+        Value::Object(_) => true,
     }
 }
 
