@@ -4,3 +4,4 @@ pub mod Visiting
 pub mod SoleTurns
 pub mod SessionLists
 pub mod Drains
+pub mod Schedules

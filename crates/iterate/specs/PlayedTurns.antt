@@ -4,7 +4,7 @@ use Rattle.gate_core.specs.Views.{IsLawfulGate}
 use Rattle.commit_book.specs.LawfulBooks.{IsLawfulBook}
 use Rattle.gx_base.specs.Meanings.{IsCall}
 use Rattle.gx_base.specs.Plans.{Operator}
-use Rattle.speculation.specs.Events.{Event}
+use Rattle.speculation.specs.Events.{Event, Turn, then_turn}
 use Rattle.speculation.specs.Events as event
 use Rattle.speculation.specs.Limits.{limit_in, limit_of_alone}
 use Rattle.speculation.specs.Machines.{Machine, place_of, turn_at, turn}
@@ -111,3 +111,15 @@ left_off Undoing = Undoing
 
 abbrev pub with_left_off : Session → Session
 with_left_off s = record s { phase = left_off s.phase }
+
+-- the turns with one more, but for one that was idle
+abbrev pub with_undo : List Turn → ℕ → Event → List Turn
+with_undo turns worker (event.Take item) = then_turn turns worker (event.Take item)
+with_undo turns worker event.Idle = turns
+with_undo turns worker (event.Call room call reply) = then_turn turns worker (event.Call room call reply)
+with_undo turns worker (event.Conflict room held call would) = then_turn turns worker (event.Conflict room held call would)
+with_undo turns worker (event.Commit number) = then_turn turns worker (event.Commit number)
+with_undo turns worker event.Wait = then_turn turns worker event.Wait
+with_undo turns worker event.Drop = then_turn turns worker event.Drop
+with_undo turns worker (event.Undo room call) = then_turn turns worker (event.Undo room call)
+with_undo turns worker event.Busy = then_turn turns worker event.Busy
