@@ -5,3 +5,4 @@ pub mod SoleTurns
 pub mod SessionLists
 pub mod Drains
 pub mod Schedules
+pub mod LoneRuns

@@ -10,6 +10,7 @@ use Rattle.speculation.specs.Premises.{AsksCall, ScheduledAsk}
 use Rattle.speculation.specs.ScheduledRuns.{is_empty, Run, then_turned, scheduled, AllBelow}
 use Rattle.speculation.proofs.Putting.{no_bool}
 use Rattle.iterate.specs.declared.events.Stop.{Stop}
+use Rattle.iterate.specs.declared.events.Stop.TheVariants as stops
 use Rattle.iterate.specs.PlayedTurns.{IsTurn, IsStopped}
 use Rattle.iterate.specs.Plays.{stop_of}
 use Rattle.iterate.specs.Turns.{IsCause}
@@ -88,3 +89,7 @@ pub below_at : (schedule : List ℕ) (workers place d : ℕ) → AllBelow schedu
 below_at [] workers place d h l = absurd (omega arith)
 below_at (x ∷ xs) workers zero d h l = h.0
 below_at (x ∷ xs) workers (suc place) d h l = below_at xs workers place d h.1 (omega arith)
+
+pub not_for_memory : (l : Limit) → stop_of l ≡ stops.NoMemory → ⊥
+not_for_memory limit.Spent e = absurd (cc)
+not_for_memory limit.Kept e = absurd (cc)
