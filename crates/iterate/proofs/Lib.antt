@@ -1,3 +1,5 @@
 pub mod Logs
 pub mod Standing
 pub mod Visiting
+pub mod Turning
+pub mod BookTurns

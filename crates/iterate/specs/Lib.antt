@@ -1,5 +1,6 @@
 pub mod RoomLists
 pub mod SessionViews
+pub mod Visits
 pub mod Needs
 pub mod SharedTurns
 pub mod Places

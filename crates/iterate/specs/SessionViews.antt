@@ -57,17 +57,33 @@ opened_of code.Finished = None
 opened_of (code.Committing book number left) = Some (record { book = book; number = number; left = left })
 opened_of code.Undoing = None
 
-abbrev pub at_of : {O St : Type 0} → Rests St → CodeSession O St → Session
-at_of rest s = record {
-  phase = phase_of rest s.phase;
-  iter = s.iter;
-  item = s.item;
-  outcome = record { steps = log_of s.phase s.log.items; pushes = s.pushes.items; withdrawn = [] };
-  next_iter = s.next_iter;
+-- what a session has besides its phase
+pub record Core : Type 0 where
+  pub worker : ℕ
+  pub iter : ℕ
+  pub item : Item
+  pub next_iter : ℕ
+  pub log : List Step
+  pub pushes : List Item
+  pub pushed : List Item
+
+abbrev pub core_of : {O St : Type 0} → CodeSession O St → Core
+core_of s = record { worker = s.worker; iter = s.iter; item = s.item; next_iter = s.next_iter; log = s.log.items; pushes = s.pushes.items; pushed = s.pushed.items }
+
+abbrev pub at_in : {St : Type 0} → Rests St → Core → CodePhase St → Session
+at_in rest c phase = record {
+  phase = phase_of rest phase;
+  iter = c.iter;
+  item = c.item;
+  outcome = record { steps = log_of phase c.log; pushes = c.pushes; withdrawn = [] };
+  next_iter = c.next_iter;
 }
 
+abbrev pub view_in : {St : Type 0} → Rests St → Core → CodePhase St → SessionView
+view_in rest c phase = record { worker = c.worker; at = at_in rest c phase; opened = opened_of phase; pushed = c.pushed }
+
 abbrev pub view_of : {O St : Type 0} → Rests St → CodeSession O St → SessionView
-view_of rest s = record { worker = s.worker; at = at_of rest s; opened = opened_of s.phase; pushed = s.pushed.items }
+view_of rest s = view_in rest (core_of s) s.phase
 
 -- a worker that has no iteration yet
 abbrev pub begun_view : ℕ → SessionView

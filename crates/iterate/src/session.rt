@@ -102,7 +102,7 @@ impl<O: Operator> Session<O> {
             Phase::Running { .. } | Phase::Asking { .. } => self.go(rooms, op),
             Phase::Finished => self.finish(rooms),
             Phase::Committing { .. } => self.release_on(rooms),
-            Phase::Undoing => Ok(self.undo(rooms)),
+            Phase::Undoing => Ok(self.undo(rooms, op)),
         }
     }
 }
