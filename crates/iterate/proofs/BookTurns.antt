@@ -18,7 +18,7 @@ use Rattle.iterate.specs.Needs.{needs}
 use Rattle.iterate.specs.Places.{IsLogOf, IsFit, AreWithin, IsFitIn, IsBody, IfTold, book_of, IsBookIn, StandsOn}
 use Rattle.iterate.specs.SessionViews.{OpenCommit, SessionView}
 use Rattle.iterate.specs.SharedTurns.{Shared, shared_in, shared_turn}
-use Rattle.iterate.specs.Turns.{Answers, HasTurned, IsLostIn, IsAfter, GoesWell, TellsRight}
+use Rattle.iterate.specs.Turns.{Answers, HasTurned, TakesTurn, IsLostIn, IsAfter, GoesWell, TellsRight}
 use Rattle.iterate.specs.Visits.{BookWasVisited}
 use Rattle.iterate.proofs.Standing.{AreLeft, fits, told_book, told_book_itself, base_place, base_stands}
 use Rattle.iterate.proofs.Visiting.{SameGates, same_gates, entered_gates, lost_gates, book_gates, then_same, none_left}
@@ -76,10 +76,6 @@ module _ {T S : Type 0} where
 
   -- ---- a turn that visits the book alone
 
-  pub record BothHold (op : Operator) (a b : RoomsView (Value T S)) (s t : SessionView) (r : Result CodeEvent Stop) : Type 0 where
-    pub has_turned : HasTurned op a b s t r
-    pub is_fit : IsFit op b t
-
   module _ (op : Operator) (a b : RoomsView (Value T S)) (s t : SessionView) (was now : BookView) (visit : BookWasVisited a b was now) (fit : IsFit op a s) (none : s.opened ≡ None) (then_none : t.opened ≡ None)
       (same : t.worker ≡ s.worker) (now_ordered : now.ordered ≡ was.ordered) (log : (room : ℕ) (es : List Entry) → IsLogOf room s es → IsLogOf room t es)
       (within : AreWithin op.rooms t.at.outcome.steps) (body : IsBody op t.at t.at.phase) where
@@ -89,7 +85,7 @@ module _ {T S : Type 0} where
     are_left : AreLeft a b s t (book_place a s was) after_place
     are_left = none_left a b s t (book_place a s was) after_place (book_visit_gates a b was now visit now_ordered) refl log
 
-    pub book_turn : (r : Result CodeEvent Stop) → Answers op a.book s t (book_place a s was) (record { gates = (book_place a s was).gates; book = now; session = t.at }) None r → BothHold op a b s t r
+    pub book_turn : (r : Result CodeEvent Stop) → Answers op a.book s t (book_place a s was) (record { gates = (book_place a s was).gates; book = now; session = t.at }) None r → TakesTurn op a b s t r
     book_turn r answers = record {
       has_turned =
           turned op a b s t (book_place a s was) after_place are_left (book_stands op a s was fit none visit.handed) fit same refl
@@ -116,7 +112,7 @@ module _ {T S : Type 0} where
         let h : IsBookIn a None (base_place a s).book = subst (λ (o : Option OpenCommit). IsBookIn a o (base_place a s).book) none (base_stands op a s fit none).book in
         subst (λ (v : RoomsView (Value T S)). IsBookIn v None (base_place a s).book) (sym loss.same) h
 
-    pub lost_turn : (r : Result CodeEvent Stop) → Answers op a.book s t (base_place a s) (record (base_place a s) { session = t.at }) (Some room) r → BothHold op a b s t r
+    pub lost_turn : (r : Result CodeEvent Stop) → Answers op a.book s t (base_place a s) (record (base_place a s) { session = t.at }) (Some room) r → TakesTurn op a b s t r
     lost_turn r answers = record {
       has_turned =
           turned op a b s t (base_place a s) lost_place lost_left (base_stands op a s fit none) fit same refl

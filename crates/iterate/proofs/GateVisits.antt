@@ -19,13 +19,13 @@ use Rattle.iterate.specs.declared.events.Event.{Event as CodeEvent}
 use Rattle.iterate.specs.declared.events.Stop.{Stop}
 use Rattle.iterate.specs.Places.{IsLogOf, IsFit, AreWithin, IsFitIn, gate_of, book_of, IfTold, IsBookIn, StandsOn}
 use Rattle.iterate.specs.SessionViews.{OpenCommit, SessionView}
-use Rattle.iterate.specs.Turns.{OthersStay, Answers, HasTurned, IsLostIn}
+use Rattle.iterate.specs.Turns.{OthersStay, Answers, TakesTurn, IsLostIn}
 use Rattle.iterate.specs.Visits.{WasVisited}
 use Rattle.iterate.proofs.Logs.{log_shown}
 use Rattle.iterate.proofs.Standing.{AreLeft, fits, told_gate, base_gates, base_book_in, base_place, base_stands}
 use Rattle.iterate.proofs.Visiting.{SameGates, same_gates, then_same, one_left, other_than_room}
 use Rattle.iterate.proofs.Turning.{held_again, no_loss, one_loss, turned}
-use Rattle.iterate.proofs.BookTurns.{BothHold, free_of}
+use Rattle.iterate.proofs.BookTurns.{free_of}
 
 module _ {T S : Type 0} where
   abbrev pub gate_place : RoomsView (Value T S) → SessionView → (room : ℕ) → GateView → BookView → Place
@@ -82,7 +82,7 @@ module _ {T S : Type 0} where
     are_left =
         one_left a b s t p q x y room (tells {T = T} {S = S} (Object was)) was now before visit.visit after below visit.handed (put_same (base_gates a) room was) refl log others elsewhere
 
-    pub gate_turn : (r : Result CodeEvent Stop) → Answers op a.book s t (gate_place a s room was p_book) (record { gates = put (put (base_gates a) room was) room now; book = q_book; session = t.at }) lost r → BothHold op a b s t r
+    pub gate_turn : (r : Result CodeEvent Stop) → Answers op a.book s t (gate_place a s room was p_book) (record { gates = put (put (base_gates a) room was) room now; book = q_book; session = t.at }) lost r → TakesTurn op a b s t r
     gate_turn r answers = record {
       has_turned = turned op a b s t p q are_left (gate_stands op a x s room was before visit.handed fit none below p_book p_in p_ordered) fit same refl q_in q_ordered lost found r answers;
       is_fit = fits a b s t p q are_left fit.acts same op fit within doing;

@@ -6,3 +6,5 @@ pub mod BookTurns
 pub mod GateVisits
 pub mod NestedVisits
 pub mod UndoTurns
+pub mod ShownTurns
+pub mod TakeTurns

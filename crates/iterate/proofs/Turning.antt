@@ -31,7 +31,7 @@ use Rattle.iterate.specs.Visits.{WasVisited, BookWasVisited}
 use Rattle.iterate.proofs.Standing.{RoomKept, GateLeft, AreLeft, stands, fits, same_rooms, told_book, base_place, base_gates, base_stands}
 use Rattle.iterate.proofs.Visiting.{SameGates, same_gates, entered_gates, lost_gates, book_gates, then_same, none_left, one_left}
 
-some_number : {x y : ℕ} → Some x ≡ Some y → x ≡ y
+pub some_number : {x y : ℕ} → Some x ≡ Some y → x ≡ y
 some_number e = cc
 
 -- ---- held rooms

@@ -1,12 +1,12 @@
 -- Sessions of the code, as the machine has them.
-use Rattle.std.specs.Prelude.{ℕ, pos, Bool, Option, Some, None, List, []}
+use Rattle.std.specs.Prelude.{◌≡◌, ℕ, pos, Bool, Option, Some, None, List, []}
 use Rattle.gx_base.specs.declared.acts.Step.{Step}
 use Rattle.gx_base.specs.declared.calls.Reply.{Reply}
 use Rattle.gx_base.specs.declared.items.Item.{Item}
 use Rattle.gx_base.specs.Plans.{Plan, Call}
 use Rattle.gx_base.specs.Outcomes.{nothing_done}
 use Rattle.commit_book.specs.BookViews.{BookView}
-use Rattle.speculation.specs.Sessions.{Session, Phase, Idle, Running, Finished, Undoing, is_idle}
+use Rattle.speculation.specs.Sessions.{Session, Phase, Idle, Running, Finished, Undoing, is_idle, following}
 use Rattle.iterate.specs.RoomLists.{steps_in}
 use Rattle.iterate.specs.declared.session.Session.{Session as CodeSession}
 use Rattle.iterate.specs.declared.session.Phase.{Phase as CodePhase}
@@ -97,3 +97,16 @@ begun_view worker = record {
 -- it has no iteration
 abbrev pub is_idle_view : SessionView → Bool
 is_idle_view session = is_idle session.at.phase
+
+-- a new iteration begins on an item
+abbrev pub begins : Core → Item → Core
+begins c item = record c { iter = c.next_iter; item = item; next_iter = following c.next_iter; log = []; pushes = [] }
+
+-- a session runs with this plan left
+abbrev pub IsBegun : {St : Type 0} → Rests St → Plan → CodePhase St → Type 0
+IsBegun rest plan (code.Running st last) = rest st last ≡ plan
+IsBegun rest plan code.Idle = ⊥
+IsBegun rest plan (code.Asking st room call) = ⊥
+IsBegun rest plan code.Finished = ⊥
+IsBegun rest plan (code.Committing book number left) = ⊥
+IsBegun rest plan code.Undoing = ⊥

@@ -2,6 +2,7 @@ use crate::entering::{enter_book, enter_gate, leave_book, leave_gate};
 use crate::events::{Event, Stop};
 use crate::releases::Releases;
 use crate::session::{Phase, Session};
+use crate::undoing::has_no_step;
 use commit_book::{Book, CommitRefuse, Operator};
 use gate_core::Screen;
 use gx_base::SeqType;
@@ -63,7 +64,7 @@ impl<O: Operator> Session<O> {
 
     // The book refuses the item: an iteration with no calls is over.
     fn give_up_in(&mut self, book: &mut Book) {
-        if self.log.is_empty() {
+        if has_no_step(&self.log) {
             book.put_back(self.worker, self.iter);
             self.end();
         } else {

@@ -7,7 +7,7 @@ ghost use Rattle.rooms.specs.RoomsViews.{is_held};
 ghost use Rattle.speculation.specs.Sessions.{last_step, steps_before, has_no_step};
 ghost use Rattle.iterate.specs.Places.{IsFit};
 ghost use Rattle.iterate.specs.SessionViews.{core_of, view_of};
-ghost use Rattle.iterate.specs.Turns.{HasTurned};
+ghost use Rattle.iterate.specs.Turns.{TakesTurn};
 ghost use Rattle.iterate.specs.Visits.{WasVisited, BookWasVisited, GaveUp};
 ghost use Rattle.iterate.specs.declared.session.Phase.TheVariants as phases;
 
@@ -53,6 +53,20 @@ fn last_of(log: &[Step]) -> Option<Step>
     Some(log[count - 1])
 }
 
+/// Whether a log has no step.
+pub(crate) fn has_no_step(log: &[Step]) -> bool
+    ensures { result ≡ has_no_step log.now }
+{
+    log.is_empty()
+}
+
+/// Takes the last step out of a log.
+fn drop_last(log: &mut Vec<Step>)
+    ensures { log.new.items ≡ steps_before log.old.items }
+{
+    let _ = log.pop();
+}
+
 impl<O: Operator> Session<O> {
     // The iteration is over.
     pub(crate) fn end(&mut self)
@@ -91,7 +105,7 @@ impl<O: Operator> Session<O> {
         ensures loan { R.loan rooms.new ≡ R.loan rooms.old }
     {
         self.phase = Phase::Undoing;
-        if self.log.is_empty() {
+        if has_no_step(&self.log) {
             let _ = self.put_back(rooms);
         }
     }
@@ -120,8 +134,7 @@ impl<O: Operator> Session<O> {
     ) -> Event
         requires fit { IsFit (operator_of O.Operator op.now) (R.view rooms.old) (view_of (O.rest op.now) self.old) }
         requires phase { self.old.phase ≡ phases.Undoing }
-        ensures turned { HasTurned (operator_of O.Operator op.now) (R.view rooms.old) (R.view rooms.new) (view_of (O.rest op.now) self.old) (view_of (O.rest op.now) self.new) (Ok result) }
-        ensures fit { IsFit (operator_of O.Operator op.now) (R.view rooms.new) (view_of (O.rest op.now) self.new) }
+        ensures turn { TakesTurn (operator_of O.Operator op.now) (R.view rooms.old) (R.view rooms.new) (view_of (O.rest op.now) self.old) (view_of (O.rest op.now) self.new) (Ok result) }
         ensures loan { R.loan rooms.new ≡ R.loan rooms.old }
     {
         match last_of(&self.log) {
@@ -144,8 +157,7 @@ impl<O: Operator> Session<O> {
         requires fit { IsFit (operator_of O.Operator _op.now) (R.view rooms.old) (view_of (O.rest _op.now) self.old) }
         requires phase { self.old.phase ≡ phases.Undoing }
         requires none { last_step self.old.log.items ≡ None }
-        ensures turned { HasTurned (operator_of O.Operator _op.now) (R.view rooms.old) (R.view rooms.new) (view_of (O.rest _op.now) self.old) (view_of (O.rest _op.now) self.new) (Ok result) }
-        ensures fit { IsFit (operator_of O.Operator _op.now) (R.view rooms.new) (view_of (O.rest _op.now) self.new) }
+        ensures turn { TakesTurn (operator_of O.Operator _op.now) (R.view rooms.old) (R.view rooms.new) (view_of (O.rest _op.now) self.old) (view_of (O.rest _op.now) self.new) (Ok result) }
         ensures loan { R.loan rooms.new ≡ R.loan rooms.old }
     {
         if self.put_back(rooms) {
@@ -165,14 +177,13 @@ impl<O: Operator> Session<O> {
         requires phase { self.old.phase ≡ phases.Undoing }
         requires last { last_step self.old.log.items ≡ Some last }
         requires others { length self.old.log.items ≢ 1 }
-        ensures turned { HasTurned (operator_of O.Operator _op.now) (R.view rooms.old) (R.view rooms.new) (view_of (O.rest _op.now) self.old) (view_of (O.rest _op.now) self.new) (Ok result) }
-        ensures fit { IsFit (operator_of O.Operator _op.now) (R.view rooms.new) (view_of (O.rest _op.now) self.new) }
+        ensures turn { TakesTurn (operator_of O.Operator _op.now) (R.view rooms.old) (R.view rooms.new) (view_of (O.rest _op.now) self.old) (view_of (O.rest _op.now) self.new) (Ok result) }
         ensures loan { R.loan rooms.new ≡ R.loan rooms.old }
     {
         if !undo_in(rooms, last.room, self.worker, self.iter) {
             return Event::Busy;
         }
-        let _ = self.log.pop();
+        drop_last(&mut self.log);
         self.pushes.clear();
         Event::Undo {
             room: last.room,
@@ -190,8 +201,7 @@ impl<O: Operator> Session<O> {
         requires phase { self.old.phase ≡ phases.Undoing }
         requires last { last_step self.old.log.items ≡ Some last }
         requires only { length self.old.log.items ≡ 1 }
-        ensures turned { HasTurned (operator_of O.Operator _op.now) (R.view rooms.old) (R.view rooms.new) (view_of (O.rest _op.now) self.old) (view_of (O.rest _op.now) self.new) (Ok result) }
-        ensures fit { IsFit (operator_of O.Operator _op.now) (R.view rooms.new) (view_of (O.rest _op.now) self.new) }
+        ensures turn { TakesTurn (operator_of O.Operator _op.now) (R.view rooms.old) (R.view rooms.new) (view_of (O.rest _op.now) self.old) (view_of (O.rest _op.now) self.new) (Ok result) }
         ensures loan { R.loan rooms.new ≡ R.loan rooms.old }
     {
         match enter_book(rooms) {
