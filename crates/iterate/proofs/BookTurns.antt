@@ -32,10 +32,14 @@ module _ {T S : Type 0} where
   pub free_of : (op : Operator) (a : RoomsView (Value T S)) (s : SessionView) → IsFit op a s → s.opened ≡ None → Free a
   free_of op a s fit none = (subst (IsFitIn op a s) none fit.doing).0
 
-  pub body_of : (op : Operator) (a : RoomsView (Value T S)) (s : SessionView) → IsFit op a s → s.opened ≡ None → IsBody op s.at s.at.phase
+  pub body_of : (op : Operator) (a : RoomsView (Value T S)) (s : SessionView) → IsFit op a s → s.opened ≡ None → IsBody op s s.at.phase
   body_of op a s fit none = (subst (IsFitIn op a s) none fit.doing).1
 
   -- ---- the book was entered and left
+
+  pub book_visited : (a x b : RoomsView (Value T S)) (was left_as now : BookView) → IsHandedOut tells a a.book (Book was) → x ≡ entered a a.book (tells {T = T} {S = S} (Book was)) → b ≡ left tells x x.book (Book left_as) → left_as ≡ now
+      → BookWasVisited a b was now
+  book_visited a x b was left_as now handed enters leaves same = record { handed = handed; visit = leaves ∙ (λ i. left tells (enters i) (enters i).book (Book (same i))) }
 
   module _ (a b : RoomsView (Value T S)) (was now : BookView) (visit : BookWasVisited a b was now) where
     field_of : {A : Type 0} → (f : RoomsView (Value T S) → A) → f b ≡ f (left tells (entered a a.book (tells {T = T} {S = S} (Book was))) a.book (Book now))
@@ -78,7 +82,7 @@ module _ {T S : Type 0} where
 
   module _ (op : Operator) (a b : RoomsView (Value T S)) (s t : SessionView) (was now : BookView) (visit : BookWasVisited a b was now) (fit : IsFit op a s) (none : s.opened ≡ None) (then_none : t.opened ≡ None)
       (same : t.worker ≡ s.worker) (now_ordered : now.ordered ≡ was.ordered) (log : (room : ℕ) (es : List Entry) → IsLogOf room s es → IsLogOf room t es)
-      (within : AreWithin op.rooms t.at.outcome.steps) (body : IsBody op t.at t.at.phase) where
+      (within : AreWithin op.rooms t.at.outcome.steps) (body : IsBody op t t.at.phase) where
     abbrev after_place : Place
     after_place = record { gates = (book_place a s was).gates; book = now; session = t.at }
 
@@ -100,7 +104,7 @@ module _ {T S : Type 0} where
 
   module _ (op : Operator) (a b : RoomsView (Value T S)) (s t : SessionView) (room : ℕ) (loss : IsLost a b room) (fit : IsFit op a s) (none : s.opened ≡ None) (then_none : t.opened ≡ None)
       (same : t.worker ≡ s.worker) (needed : needs a.book s room ≡ true) (log : (other : ℕ) (es : List Entry) → IsLogOf other s es → IsLogOf other t es)
-      (within : AreWithin op.rooms t.at.outcome.steps) (body : IsBody op t.at t.at.phase) where
+      (within : AreWithin op.rooms t.at.outcome.steps) (body : IsBody op t t.at.phase) where
     abbrev lost_place : Place
     lost_place = record (base_place a s) { session = t.at }
 

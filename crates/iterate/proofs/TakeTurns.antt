@@ -79,7 +79,7 @@ module _ {T S St : Type 0} (op : Operator) (a b : RoomsView (Value T S)) (rest :
       let q : Place = record { gates = p.gates; book = now; session = t.at } in
       let u : Turned = take op p c.worker (Some item) in
       book_turn op a b s t was now visit fit refl refl refl (found_ordered was c.worker c.next_iter (free_item was)) (fresh_log (no_calls fit) item (code.Running st last) refl) tt
-      (subst (RunsTo (op.plan item) [] []) (sym begun_is) begun)
+      (subst (RunsTo (op.plan item) [] []) (sym begun_is) begun, tt)
       (Ok (events.Take item))
       (whole op a b s t p q u (events.Take item) (takes p.gates was (Some item) found) refl refl
       (λ i. record { gates = p.gates; book = give_found was c.worker c.next_iter (found i); session = record t.at { phase = Running (begun_is i) } }) refl refl refl tt)

@@ -11,7 +11,7 @@ use Rattle.gx_base.specs.Replays.{no_state, part}
 use Rattle.gate_core.specs.Entries.{Each, mades_of, entries_of}
 use Rattle.gate_core.specs.Views.{GateView}
 use Rattle.commit_book.specs.BookViews.{BookView, new_book}
-use Rattle.speculation.specs.Sessions.{Session, Phase, Idle, Running, Finished, Undoing}
+use Rattle.speculation.specs.Sessions.{Phase, Idle, Running, Finished, Undoing}
 use Rattle.speculation.specs.Machines.{Place}
 use Rattle.rooms.specs.RoomsViews.{RoomsView, is_held, commits_entered}
 use Rattle.rooms.specs.declared.values.Value.{Value}
@@ -53,11 +53,16 @@ abbrev pub AreWithin : ℕ → List Step → Type 0
 AreWithin rooms [] = ⊤
 AreWithin rooms (step ∷ steps) = (step.room < rooms) × AreWithin rooms steps
 
+-- the room of a call that was asked is one of so many
+abbrev pub IsAskedWithin : ℕ → Option ℕ → Type 0
+IsAskedWithin rooms None = ⊤
+IsAskedWithin rooms (Some room) = room < rooms
+
 -- a running session has come so far on its item, by the replies of its log; a finished one has come to the end; an idle one has no log
-abbrev pub IsBody : Operator → Session → Phase → Type 0
-IsBody op s Idle = s.outcome.steps ≡ []
-IsBody op s (Running plan) = RunsTo (op.plan s.item) s.outcome.steps s.outcome.pushes plan
-IsBody op s Finished = RunsTo (op.plan s.item) s.outcome.steps s.outcome.pushes Done
+abbrev pub IsBody : Operator → SessionView → Phase → Type 0
+IsBody op s Idle = s.at.outcome.steps ≡ []
+IsBody op s (Running plan) = RunsTo (op.plan s.at.item) s.at.outcome.steps s.at.outcome.pushes plan × IsAskedWithin op.rooms s.asked
+IsBody op s Finished = RunsTo (op.plan s.at.item) s.at.outcome.steps s.at.outcome.pushes Done
 IsBody op s Undoing = ⊤
 
 -- the commit is the last one of the book, and is that of a whole run on the session's item
@@ -72,7 +77,7 @@ pub record IsCommitOf (op : Operator) (session : SessionView) (made : OpenCommit
 
 -- no room is held, and the body is where the log says
 abbrev pub IsFitIn : {V : Type 0} → Operator → RoomsView V → SessionView → Option OpenCommit → Type 0
-IsFitIn op rooms session None = ((room : ℕ) → is_held rooms room ≡ false) × IsBody op session.at session.at.phase
+IsFitIn op rooms session None = ((room : ℕ) → is_held rooms room ≡ false) × IsBody op session session.at.phase
 -- or the book is held, which has the commit, and no room that is left was released under its number
 IsFitIn op rooms session (Some made) =
     ((room : ℕ) → is_held rooms room ≡ (room == rooms.book)) × IsCommitOf op session made × (made.book.ordered ≡ rooms.ordered)

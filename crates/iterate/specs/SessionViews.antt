@@ -19,10 +19,12 @@ pub record OpenCommit : Type 0 where
   pub number : ℕ
   pub left : List ℕ
 
--- the worker, where it is by the machine, the commit that it is making, and the pushes of its last one
+-- the worker, where it is by the machine, the room of a call that its body has asked and that isn't done yet, the commit that it is
+-- making, and the pushes of its last one
 pub record SessionView : Type 0 where
   pub worker : ℕ
   pub at : Session
+  pub asked : Option ℕ
   pub opened : Option OpenCommit
   pub pushed : List Item
 
@@ -57,6 +59,14 @@ opened_of code.Finished = None
 opened_of (code.Committing book number left) = Some (record { book = book; number = number; left = left })
 opened_of code.Undoing = None
 
+abbrev pub asked_of : {St : Type 0} → CodePhase St → Option ℕ
+asked_of code.Idle = None
+asked_of (code.Running st last) = None
+asked_of (code.Asking st room call) = Some room
+asked_of code.Finished = None
+asked_of (code.Committing book number left) = None
+asked_of code.Undoing = None
+
 -- what a session has besides its phase
 pub record Core : Type 0 where
   pub worker : ℕ
@@ -80,7 +90,7 @@ at_in rest c phase = record {
 }
 
 abbrev pub view_in : {St : Type 0} → Rests St → Core → CodePhase St → SessionView
-view_in rest c phase = record { worker = c.worker; at = at_in rest c phase; opened = opened_of phase; pushed = c.pushed }
+view_in rest c phase = record { worker = c.worker; at = at_in rest c phase; asked = asked_of phase; opened = opened_of phase; pushed = c.pushed }
 
 abbrev pub view_of : {O St : Type 0} → Rests St → CodeSession O St → SessionView
 view_of rest s = view_in rest (core_of s) s.phase
@@ -90,6 +100,7 @@ abbrev pub begun_view : ℕ → SessionView
 begun_view worker = record {
   worker = worker;
   at = record { phase = Idle; iter = 0; item = record { k0 = pos 0; k1 = pos 0; k2 = pos 0; k3 = pos 0 }; outcome = nothing_done; next_iter = 0 };
+  asked = None;
   opened = None;
   pushed = [];
 }
