@@ -25,7 +25,7 @@ use Rattle.iterate.proofs.Visiting.{SameGates, same_gates, entered_gates, lost_g
 use Rattle.iterate.proofs.Turning.{held_again, no_loss, one_loss, turned}
 
 module _ {T S : Type 0} where
-  abbrev Free : RoomsView (Value T S) → Type 0
+  abbrev pub Free : RoomsView (Value T S) → Type 0
   Free v = (room : ℕ) → is_held v room ≡ false
 
   -- a session that holds no room

@@ -8,3 +8,5 @@ pub mod NestedVisits
 pub mod UndoTurns
 pub mod ShownTurns
 pub mod TakeTurns
+pub mod GivingUp
+pub mod CallTurns

@@ -40,19 +40,19 @@ use Rattle.iterate.proofs.BookTurns.{free_of, book_stands, book_place, book_turn
 some_same : {x y : Step} → Some x ≡ Some y → x ≡ y
 some_same e = cc
 
-unless_true : (b : Bool) (x y : Place) → b ≡ false → (if b then x else y) ≡ y
+pub unless_true : (b : Bool) (x y : Place) → b ≡ false → (if b then x else y) ≡ y
 unless_true true x y e = absurd (cc)
 unless_true false x y e = refl
 
-where_true : (b : Bool) (x y : Place) → b ≡ true → (if b then x else y) ≡ x
+pub where_true : (b : Bool) (x y : Place) → b ≡ true → (if b then x else y) ≡ x
 where_true true x y e = refl
 where_true false x y e = absurd (cc)
 
-or_right : (x y : Bool) → y ≡ true → (x || y) ≡ true
+pub or_right : (x y : Bool) → y ≡ true → (x || y) ≡ true
 or_right true y e = refl
 or_right false y e = e
 
-or_left : (x y : Bool) → x ≡ true → (x || y) ≡ true
+pub or_left : (x y : Bool) → x ≡ true → (x || y) ≡ true
 or_left true y e = refl
 or_left false y e = absurd (cc)
 

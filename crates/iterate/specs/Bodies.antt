@@ -1,6 +1,7 @@
 -- Where a body of the code comes to.
 use Rattle.std.specs.Prelude.{◌≡◌, ℕ, ◌<◌, Option, Some, None, List, ⊤}
 use Rattle.gx_base.specs.declared.calls.Call.{Call as CallOf}
+use Rattle.gx_base.specs.declared.calls.Reply.{Reply}
 use Rattle.gx_base.specs.declared.items.Item.{Item}
 use Rattle.gx_base.specs.Plans.{Plan, Call}
 use Rattle.speculation.specs.Sessions.{Session, Ahead, Asks, Ends, ahead, at_plan, at_end}
@@ -46,3 +47,12 @@ pub record HasGoneOn {St : Type 0} (rest : Rests St) (old new : Core) (before af
   pub at : at_in rest new after ≡ gone_on (at_in rest old before)
   pub core : new ≡ record old { pushes = new.pushes }
   pub phase : IsAsking asked after
+
+-- the body of a session that asked a call goes on from this reply
+abbrev pub IsNoted : {St : Type 0} → Reply → CodePhase St → CodePhase St → Type 0
+IsNoted reply code.Idle after = ⊤
+IsNoted reply (code.Running st last) after = ⊤
+IsNoted reply (code.Asking st room call) after = after ≡ code.Running st (Some reply)
+IsNoted reply code.Finished after = ⊤
+IsNoted reply (code.Committing book number left) after = ⊤
+IsNoted reply code.Undoing after = ⊤

@@ -1,3 +1,10 @@
+ghost use Rattle.std.specs.Prelude.{◌≡◌};
+ghost use Rattle.commit_book.specs.SerialRuns.{operator_of};
+ghost use Rattle.iterate.specs.Places.{IsFit};
+ghost use Rattle.iterate.specs.SessionViews.{core_of, view_of};
+ghost use Rattle.iterate.specs.Turns.{TakesTurn};
+ghost use Rattle.iterate.specs.declared.session.Phase.TheVariants as phases;
+
 use crate::entering::{enter_book, enter_gate, leave_book, leave_gate};
 use crate::events::{Event, Stop};
 use crate::releases::Releases;
@@ -33,7 +40,13 @@ impl<O: Operator> Session<O> {
     pub(crate) fn finish<R: Rooms<Value<T, S>>, T: SeqType, S: Screen<T>>(
         &mut self,
         rooms: &mut R,
-    ) -> Result<Event, Stop> {
+        op: &O,
+    ) -> Result<Event, Stop>
+        requires fit { IsFit (operator_of O.Operator op.now) (R.view rooms.old) (view_of (O.rest op.now) self.old) }
+        requires phase { self.old.phase ≡ phases.Finished }
+        ensures turn { TakesTurn (operator_of O.Operator op.now) (R.view rooms.old) (R.view rooms.new) (view_of (O.rest op.now) self.old) (view_of (O.rest op.now) self.new) result }
+        ensures loan { R.loan rooms.new ≡ R.loan rooms.old }
+    {
         let Some(mut book) = enter_book(rooms) else {
             return Ok(Event::Busy);
         };

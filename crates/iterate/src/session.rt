@@ -100,7 +100,7 @@ impl<O: Operator> Session<O> {
         match self.phase {
             Phase::Idle => self.take(rooms, op),
             Phase::Running { .. } | Phase::Asking { .. } => self.go(rooms, op),
-            Phase::Finished => self.finish(rooms),
+            Phase::Finished => self.finish(rooms, op),
             Phase::Committing { .. } => self.release_on(rooms),
             Phase::Undoing => Ok(self.undo(rooms, op)),
         }
