@@ -269,3 +269,13 @@ module _ {T S St : Type 0} (op : Operator) (a b : RoomsView (Value T S)) (rest :
 
   pub stop_turn : (x : RoomsView (Value T S)) (new : Core) (phase : CodePhase St) → IsFit op a asking → Quiet a x → GaveUp x b (record c { pushes = [] }) new phase → TakesTurn op a b asking (view_in rest new phase) (Err stops.NoMemory)
   stop_turn x new phase fit quiet gave_up = stopped_turn op a x b rest c asking plan (Some room) refl fit quiet needs_book new phase gave_up
+
+-- what a session that has asked a call holds, and where its call is
+pub asking_free : {T S St : Type 0} (op : Operator) (a : RoomsView (Value T S)) (rest : Rests St) (c : Core) (f : CodePhase St) (st : St) (room : ℕ) (call : CallOf) → f ≡ code.Asking st room call → IsFit op a (view_in rest c f)
+    → (other : ℕ) → is_held a other ≡ false
+asking_free op a rest c f st room call e fit = free_of op a (view_in rest c (code.Asking st room call)) (subst (λ x. IsFit op a (view_in rest c x)) e fit) refl
+
+pub asking_below : {T S St : Type 0} (op : Operator) (a : RoomsView (Value T S)) (rest : Rests St) (c : Core) (f : CodePhase St) (st : St) (room : ℕ) (call : CallOf) → f ≡ code.Asking st room call → IsFit op a (view_in rest c f) → room < a.book
+asking_below op a rest c f st room call e fit =
+    let h : IsFit op a (view_in rest c (code.Asking st room call)) = subst (λ x. IsFit op a (view_in rest c x)) e fit in
+    subst (λ n. room < n) (sym h.book) (body_of op a (view_in rest c (code.Asking st room call)) h refl).1

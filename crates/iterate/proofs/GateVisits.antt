@@ -90,6 +90,10 @@ module _ {T S : Type 0} where
 
   -- ---- a visit of one gate alone
 
+  pub gate_visited : (a x b : RoomsView (Value T S)) (room : ℕ) (was left_as now : GateView) → IsHandedOut tells a room (Object was) → x ≡ entered a room (tells {T = T} {S = S} (Object was)) → b ≡ left tells x room (Object left_as) → left_as ≡ now
+      → WasVisited a b room was now
+  gate_visited a x b room was left_as now handed enters leaves same = record { handed = handed; visit = leaves ∙ (λ i. left tells (enters i) room (Object (same i))) }
+
   module _ (a b : RoomsView (Value T S)) (room : ℕ) (was now : GateView) (visit : WasVisited a b room was now) where
     field_of : {A : Type 0} → (f : RoomsView (Value T S) → A) → f b ≡ f (left tells (entered a room (tells {T = T} {S = S} (Object was))) room (Object now))
     field_of f = ap f visit.visit

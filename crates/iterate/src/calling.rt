@@ -61,14 +61,15 @@ impl<O: Operator> Session<O> {
                     self.note(room, call, reply);
                     Ok(Event::Call { room, call, reply })
                 }
-                Err(GateRefuse::Conflict(told)) => {
+                Err(refuse) => {
                     leave_gate(rooms, room, gate);
-                    self.give_up(rooms);
-                    Ok(Event::Conflict { room, told })
-                }
-                Err(GateRefuse::NoMemory) => {
-                    leave_gate(rooms, room, gate);
-                    self.stop(rooms, Stop::NoMemory)
+                    match refuse {
+                        GateRefuse::Conflict(told) => {
+                            self.give_up(rooms);
+                            Ok(Event::Conflict { room, told })
+                        }
+                        GateRefuse::NoMemory => self.stop(rooms, Stop::NoMemory),
+                    }
                 }
             },
         }
