@@ -10,3 +10,4 @@ pub mod ShownTurns
 pub mod TakeTurns
 pub mod GivingUp
 pub mod CallTurns
+pub mod ReleaseSteps

@@ -16,7 +16,7 @@ use Rattle.speculation.specs.Machines.{Place}
 use Rattle.rooms.specs.RoomsViews.{RoomsView, is_held, commits_entered}
 use Rattle.rooms.specs.declared.values.Value.{Value}
 use Rattle.rooms.specs.declared.values.Value.TheVariants.{Object, Book}
-use Rattle.iterate.specs.RoomLists.{is_among, steps_in}
+use Rattle.iterate.specs.RoomLists.{is_among, steps_in, AreRising, AreBelow}
 use Rattle.iterate.specs.SessionViews.{OpenCommit, SessionView}
 
 -- ---- values of rooms
@@ -72,7 +72,10 @@ pub record IsCommitOf (op : Operator) (session : SessionView) (made : OpenCommit
   pub runs : RunsTo (op.plan session.at.item) steps session.at.outcome.pushes Done
   pub last : made.book.commits ≡ earlier ++ record { worker = session.worker; iter = session.at.iter; item = session.at.item; outcome = record { steps = steps; pushes = session.at.outcome.pushes; withdrawn = [] } } ∷ []
   pub number : made.number ≡ length earlier
-  -- the log is the part of these steps in the rooms that are left
+  -- the rooms that are left stand by rising number
+  pub rising : AreRising made.left
+  pub below : AreBelow op.rooms made.left
+  -- the log is the part of these steps in them
   pub log : session.at.outcome.steps ≡ steps_in made.left steps
 
 -- no room is held, and the body is where the log says
