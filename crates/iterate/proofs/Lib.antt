@@ -6,3 +6,13 @@ pub mod SessionLists
 pub mod Drains
 pub mod Schedules
 pub mod LoneRuns
+pub mod Turning
+pub mod BookTurns
+pub mod GateVisits
+pub mod NestedVisits
+pub mod UndoTurns
+pub mod ShownTurns
+pub mod TakeTurns
+pub mod GivingUp
+pub mod CallTurns
+pub mod ReleaseSteps

@@ -110,12 +110,21 @@ impl<O: Operator> Session<O> {
         ensures fit { IsFit (operator_of O.Operator op.now) (R.view rooms.new) (view_of (O.rest op.now) self.new) }
         ensures loan { R.loan rooms.new ≡ R.loan rooms.old }
     {
-        match self.phase {
+        match mem::replace(&mut self.phase, Phase::Idle) {
             Phase::Idle => self.take(rooms, op),
-            Phase::Running { .. } | Phase::Asking { .. } => self.go(rooms, op),
-            Phase::Finished => self.finish(rooms),
-            Phase::Committing { .. } => self.release_on(rooms),
-            Phase::Undoing => Ok(self.undo(rooms)),
+            Phase::Finished => {
+                self.phase = Phase::Finished;
+                self.finish(rooms, op)
+            }
+            Phase::Committing { book, number, left } => Ok(self.release(rooms, op, book, number, left)),
+            Phase::Undoing => {
+                self.phase = Phase::Undoing;
+                Ok(self.undo(rooms, op))
+            }
+            working => {
+                self.phase = working;
+                self.go(rooms, op)
+            }
         }
     }
 }
