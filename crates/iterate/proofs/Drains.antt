@@ -23,17 +23,20 @@ use Rattle.iterate.specs.SessionViews.{OpenCommit, SessionView}
 -- ---- an iteration that leaves off may take turns
 
 module _ {T S : Type 0} (op : Operator) (rooms : RoomsView (Value T S)) where
-  body_left : (s : Session) (phase : Phase) → IsBody op s phase → IsBody op (record s { phase = left_off phase }) (left_off phase)
+  abbrev left_view : SessionView → SessionView
+  left_view s = record s { at = with_left_off s.at; asked = None }
+
+  body_left : (s : SessionView) (phase : Phase) → IsBody op s phase → IsBody op (left_view s) (left_off phase)
   body_left s Idle h = h
   body_left s (Running plan) h = tt
   body_left s Finished h = tt
   body_left s Undoing h = tt
 
-  doing_left : (s : SessionView) (opened : Option OpenCommit) → opened ≡ None → IsFitIn op rooms s opened → IsFitIn op rooms (record s { at = with_left_off s.at }) opened
-  doing_left s None n h = (h.0, body_left s.at s.at.phase h.1)
+  doing_left : (s : SessionView) (opened : Option OpenCommit) → opened ≡ None → IsFitIn op rooms s opened → IsFitIn op rooms (left_view s) opened
+  doing_left s None n h = (h.0, body_left s s.at.phase h.1)
   doing_left s (Some made) n h = absurd (cc)
 
-  left_may : (worker : ℕ) (s : SessionView) → MayTurn op rooms worker s → MayTurn op rooms worker (record s { at = with_left_off s.at })
+  left_may : (worker : ℕ) (s : SessionView) → MayTurn op rooms worker s → MayTurn op rooms worker (left_view s)
   left_may worker s h = record {
     worker_is = h.worker_is;
     closed = h.closed;
@@ -49,7 +52,7 @@ module _ {T S : Type 0} (op : Operator) (rooms : RoomsView (Value T S)) where
     };
   }
 
-  pub may_leave_off : (worker : ℕ) (s t : SessionView) → t ≡ record s { at = with_left_off s.at } → MayTurn op rooms worker s → MayTurn op rooms worker t
+  pub may_leave_off : (worker : ℕ) (s t : SessionView) → t ≡ record s { at = with_left_off s.at; asked = None } → MayTurn op rooms worker s → MayTurn op rooms worker t
   may_leave_off worker s t e h = subst (MayTurn op rooms worker) (sym e) (left_may worker s h)
 
 -- ---- a step of the drain

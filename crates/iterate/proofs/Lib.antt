@@ -16,3 +16,5 @@ pub mod TakeTurns
 pub mod GivingUp
 pub mod CallTurns
 pub mod ReleaseSteps
+pub mod WholeRuns
+pub mod Beginnings

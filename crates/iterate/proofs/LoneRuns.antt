@@ -96,7 +96,7 @@ module _ (op : Operator) where
       sums n more = omega arith
 
   -- no more turns are made once nothing is ready
-  none_after : (m : Machine) (n : ℕ) → is_empty m.book.ready ≡ true → limit_of_alone op m n ≡ None
+  pub none_after : (m : Machine) (n : ℕ) → is_empty m.book.ready ≡ true → limit_of_alone op m n ≡ None
   unfolding limit_of_alone
   none_after m zero e = refl
   none_after m (suc n) e = ap (λ (b : Bool). if b then None else or_later (limit_in op m 0) (limit_of_alone op (turn op m 0) n)) e

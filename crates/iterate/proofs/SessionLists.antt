@@ -57,3 +57,6 @@ module _ {O St : Type 0} (rest : Rests St) where
     -- no room is held
     pub all_free : (a : RoomsView (Value T S)) (xs : List (CodeSession O St)) → 0 < length xs → MayAllTurn op a rest xs → (room : ℕ) → is_held a room ≡ false
     all_free a xs h all = let x = first_there xs h in free_of op a 0 (view_of rest x.0) (all 0 x.0 x.1)
+
+    pub book_is : (a : RoomsView (Value T S)) (xs : List (CodeSession O St)) → 0 < length xs → MayAllTurn op a rest xs → a.book ≡ op.rooms
+    book_is a xs h all = let x = first_there xs h in let may = all 0 x.0 x.1 in may.fit.book

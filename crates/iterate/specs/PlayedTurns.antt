@@ -6,10 +6,10 @@ use Rattle.gx_base.specs.Meanings.{IsCall}
 use Rattle.gx_base.specs.Plans.{Operator}
 use Rattle.speculation.specs.Events.{Event, Turn, then_turn}
 use Rattle.speculation.specs.Events as event
-use Rattle.speculation.specs.Limits.{limit_in, limit_of_alone}
+use Rattle.speculation.specs.Limits.{limit_in, limit_of_alone, limit_of_played}
 use Rattle.speculation.specs.Machines.{Machine, place_of, turn_at, turn}
-use Rattle.speculation.specs.Premises.{AsksCall, AloneAsk}
-use Rattle.speculation.specs.ScheduledRuns.{is_empty, Run, alone}
+use Rattle.speculation.specs.Premises.{AsksCall, AloneAsk, AsksCalls}
+use Rattle.speculation.specs.ScheduledRuns.{is_empty, Run, alone, played}
 use Rattle.speculation.specs.Sessions.{Session, Phase, Idle, Running, Finished, Undoing}
 use Rattle.rooms.specs.RoomsViews.{RoomsView}
 use Rattle.rooms.specs.declared.values.Value.{Value}
@@ -101,6 +101,14 @@ pub record IsLoneRun (op : Operator) (before after : Machine) : Type 0 where
   pub ends : is_empty after.book.ready ≡ true
   pub unlimited : limit_of_alone op before turns ≡ None
   pub asks : AloneAsk op before turns
+
+-- the turns are those of the scheduled run, of which no commit passed a limit; nothing is ready after it
+pub record IsPlayedRun (op : Operator) (before : Machine) (workers : ℕ) (schedule : List ℕ) (last : Run) : Type 0 where
+  pub turns : ℕ
+  pub unlimited : limit_of_played op before workers schedule turns ≡ None
+  pub ends : is_empty last.machine.book.ready ≡ true
+  pub run_is : last ≡ played op before workers schedule turns
+  pub asks : AsksCalls op before workers schedule turns
 
 -- an iteration that isn't over undoes
 abbrev pub left_off : Phase → Phase

@@ -11,7 +11,7 @@ ghost use Rattle.iterate.specs.declared.events.Stop.TheVariants as stops;
 
 use crate::events::{Event, Stop, Turn};
 use crate::session::Session;
-use crate::turning::{note, take_turn};
+use crate::sole_turns::{note, take_turn};
 use commit_book::Operator;
 use gate_core::Screen;
 use gx_base::SeqType;

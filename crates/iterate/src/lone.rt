@@ -8,7 +8,7 @@ ghost use Rattle.iterate.specs.Plays.{stop_of};
 
 use crate::events::Stop;
 use crate::session::Session;
-use crate::turning::{nothing_is_ready, take_turn};
+use crate::sole_turns::{nothing_is_ready, take_turn};
 use commit_book::Operator;
 use gate_core::Screen;
 use gx_base::SeqType;

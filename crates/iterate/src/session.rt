@@ -89,7 +89,7 @@ impl<O: Operator> Session<O> {
     /// The iteration, if it isn't over, has to take back its calls, whose number is the answer.
     pub(crate) fn leave_off(&mut self) -> usize
         requires { (op : O) → (view_of (O.rest op) self.old).opened ≡ None }
-        ensures view { (op : O) → view_of (O.rest op) self.new ≡ record (view_of (O.rest op) self.old) { at = with_left_off (view_of (O.rest op) self.old).at } }
+        ensures view { (op : O) → view_of (O.rest op) self.new ≡ record (view_of (O.rest op) self.old) { at = with_left_off (view_of (O.rest op) self.old).at; asked = None } }
         ensures count { (op : O) → result ≡ length (view_of (O.rest op) self.old).at.outcome.steps }
     {
         if !self.is_idle() {
