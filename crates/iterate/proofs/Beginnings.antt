@@ -1,7 +1,8 @@
 -- Values that are new for an operator: their machine is a new one, and sessions may take their first turns.
-use Rattle.std.specs.Prelude.{◌≡◌, ◌⊎◌, ℕ, ◌+◌, ◌<◌, ◌≤◌, Bool, true, false, not, ◌&&◌, ◌==◌, if◌then◌else◌, Option, Some, None, List, [], ◌∷◌, is_some, slice_get, refl}
+use Rattle.std.specs.Prelude.{◌≡◌, ◌⊎◌, ℕ, ◌+◌, ◌<◌, ◌≤◌, Bool, true, false, not, ◌&&◌, ◌==◌, if◌then◌else◌, Option, Some, None, List, [], ◌∷◌, ◌++◌, zero, suc, length, is_some, slice_get, refl}
 use Rattle.std.proofs.Common.{sym, ◌∙◌, ap, subst, inl, inr, arith}
 use Rattle.std.proofs.lemmas.Bool.{cases_lt}
+use Rattle.std.proofs.lemmas.Option.{same_Some}
 use Rattle.std.specs.FinMap as map
 use Rattle.std.specs.Ordering.{is_lt, ordering_reverse}
 use Rattle.std.specs.declared.cmp.Ordering.{Ordering}
@@ -22,7 +23,11 @@ use Rattle.commit_book.specs.BookViews.{BookView}
 use Rattle.commit_book.specs.LawfulBooks.{AreAfter, AreRising, IsLawfulBook}
 use Rattle.commit_book.proofs.ready.ReadySets.{item_cmp_total}
 use Rattle.speculation.specs.Machines.{Machine}
-use Rattle.speculation.specs.Premises.{IsNewGate, IsInOrder, IsNew}
+use Rattle.speculation.specs.Events.{Turn}
+use Rattle.speculation.specs.Premises.{IsNewGate, IsInOrder, IsNew, AsksCalls}
+use Rattle.speculation.specs.RunResults.{IsSerialInTheEnd}
+use Rattle.speculation.specs.ScheduledRuns.{is_empty, Run, played}
+use Rattle.speculation.specs.Sessions.{Session}
 use Rattle.speculation.proofs.Putting.{no_bool, same_number, numbers_equal}
 use Rattle.rooms.specs.RoomsViews.{RoomsView, is_held, entries_for}
 use Rattle.rooms.specs.Values.{tells}
@@ -30,9 +35,10 @@ use Rattle.rooms.specs.Visits.{AreTold, everyone}
 use Rattle.rooms.specs.declared.values.Value.{Value}
 use Rattle.rooms.specs.declared.values.Value.TheVariants.{Object, Book}
 use Rattle.iterate.specs.Places.{no_gate, gate_of, book_of, IfTold, IsLogOf, IsFit}
-use Rattle.iterate.specs.PlayedTurns.{IsLawfulValue, MayTurn}
-use Rattle.iterate.specs.Plays.{gate_in, book_in, begun_machine, IsNewGateIn, IsNewBookIn, AreNewFor}
-use Rattle.iterate.specs.SessionViews.{begun_view}
+use Rattle.iterate.specs.declared.session.Session.{Session as CodeSession}
+use Rattle.iterate.specs.PlayedTurns.{machine_of, session_in, sessions_of, IsLawfulValue, MayTurn, MayAllTurn, AreBegun, IsPlayedRun}
+use Rattle.iterate.specs.Plays.{gate_in, book_in, begun_machine, IsNewGateIn, IsNewBookIn, AreNewFor, IsPlayed}
+use Rattle.iterate.specs.SessionViews.{Rests, SessionView, view_of, begun_view}
 
 -- ---- a ready set by rising item is in order
 
@@ -192,3 +198,59 @@ module _ {T S : Type 0} (a : RoomsView (Value T S)) (told : AreTold tells a) whe
       past : (a.book < room) ⊎ (room ≤ a.book) → gate_in (a.told room) ≡ no_gate
       past (inl more) = ap gate_in (told.no_more room more)
       past (inr upto) = let same : room ≡ a.book = omega arith in ap (λ k. gate_in (a.told k)) same ∙ ap gate_in book_there
+
+-- ---- sessions before their first turns
+
+place_by : {X : Type 0} (xs : List X) (x : X) (place : ℕ) (y : X) → slice_get (xs ++ x ∷ []) place ≡ Some y → (slice_get xs place ≡ Some y) ⊎ ((place ≡ length xs) × (y ≡ x))
+place_by [] x zero y e = inr (refl, sym (same_Some x y e))
+place_by [] x (suc place) y e = absurd (cc)
+place_by (z ∷ zs) x zero y e = inl e
+place_by (z ∷ zs) x (suc place) y e = later (place_by zs x place y e)
+  where
+    later : (slice_get zs place ≡ Some y) ⊎ ((place ≡ length zs) × (y ≡ x)) → (slice_get zs place ≡ Some y) ⊎ ((suc place ≡ suc (length zs)) × (y ≡ x))
+    later (inl h) = inl h
+    later (inr (h, k)) = inr (ap suc h, k)
+
+module _ {O St : Type 0} (rest : Rests St) where
+  begun_by : (worker : ℕ) (o : Option (CodeSession O St)) → ((s : CodeSession O St) → o ≡ Some s → view_of rest s ≡ begun_view worker) → session_in rest o ≡ (begun_view worker).at
+  begun_by worker None h = refl
+  begun_by worker (Some s) h = ap (λ (v : SessionView). v.at) (h s refl)
+
+  pub begun_sessions : (xs : List (CodeSession O St)) → AreBegun rest xs → (worker : ℕ) → sessions_of rest xs worker ≡ (begun_view worker).at
+  begun_sessions xs h worker = begun_by worker (slice_get xs worker) (h worker)
+
+  module _ {T S : Type 0} (op : Operator) (a : RoomsView (Value T S)) (told : AreTold tells a) (new : AreNewFor op a.told) where
+    pub begun_is : (xs : List (CodeSession O St)) → AreBegun rest xs → machine_of a (sessions_of rest xs) ≡ begun_machine op.rooms a.told
+    begun_is xs h = λ i. record { gates = λ room. gate_in (a.told room); book = book_in (a.told (book_last op a told new i)); sessions = λ worker. begun_sessions xs h worker i }
+
+    pub all_begin : (xs : List (CodeSession O St)) → AreBegun rest xs → a.acts_for ≡ everyone → ((room : ℕ) → is_held a room ≡ false) → MayAllTurn op a rest xs
+    all_begin xs h acts free = λ worker s e. subst (MayTurn op a worker) (sym (h worker s e)) (may_begin op a told new acts free worker)
+
+  pub one_more_begun : (xs : List (CodeSession O St)) (x : CodeSession O St) → AreBegun rest xs → view_of rest x ≡ begun_view (length xs) → AreBegun rest (xs ++ x ∷ [])
+  one_more_begun xs x h k = λ worker s e. by_place worker s (place_by xs x worker s e)
+    where
+      by_place : (worker : ℕ) (s : CodeSession O St) → (slice_get xs worker ≡ Some s) ⊎ ((worker ≡ length xs) × (s ≡ x)) → view_of rest s ≡ begun_view worker
+      by_place worker s (inl there) = h worker s there
+      by_place worker s (inr (last, same)) = ap (view_of rest) same ∙ k ∙ ap begun_view (sym last)
+
+-- ---- a whole run
+
+module _ {T S : Type 0} (op : Operator) (first : Machine) (workers : ℕ) (schedule : List ℕ) (b : RoomsView (Value T S)) (told : AreTold tells b) (last : b.book ≡ op.rooms) where
+  abbrev After : ℕ → Machine
+  After turns = (played op first workers schedule turns).machine
+
+  pub is_played : (sessions : ℕ → Session) (trace : List Turn) (values : ℕ → Option (Value T S)) → IsPlayedRun op first workers schedule (record { machine = machine_of b sessions; trace = trace })
+      → ((room : ℕ) → values room ≡ b.told room) → ((turns : ℕ) → AsksCalls op first workers schedule turns → IsSerialInTheEnd op first (After turns)) → IsPlayed op first workers schedule trace values
+  is_played sessions trace values h same serial =
+      let machine : machine_of b sessions ≡ After h.turns = ap (λ (r : Run). r.machine) h.run_is in
+      record {
+        turns = h.turns;
+        unlimited = h.unlimited;
+        ends = subst (λ (m : Machine). is_empty m.book.ready ≡ true) machine h.ends;
+        trace_is = ap (λ (r : Run). r.trace) h.run_is;
+        gates = λ room below. same room ∙ object_there b told room (subst (λ k. room < k) (sym last) below) ∙ ap (λ (m : Machine). Some (Object (m.gates room))) machine;
+        book = same op.rooms ∙ subst (λ k. b.told k ≡ Some (Book (book_in (b.told b.book)))) last (book_there b told) ∙ ap (λ (m : Machine). Some (Book m.book)) machine;
+        no_more = λ room above. same room ∙ told.no_more room (subst (λ k. k < room) (sym last) above);
+        no_others = λ room above. ap (λ (m : Machine). m.gates room) (sym machine) ∙ no_gate_past b told room (subst (λ k. k ≤ room) (sym last) above);
+        serial = serial h.turns h.asks;
+      }

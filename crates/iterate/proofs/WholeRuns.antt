@@ -1,5 +1,5 @@
 -- Whole runs, from their parts.
-use Rattle.std.specs.Prelude.{◌≡◌, ◌⊎◌, ℕ, zero, suc, ◌+◌, Bool, true, false, if◌then◌else◌, Option, Some, None, List, [], ◌∷◌, refl}
+use Rattle.std.specs.Prelude.{◌≡◌, ◌⊎◌, ℕ, zero, suc, ◌+◌, Bool, true, false, if◌then◌else◌, Option, Some, None, List, [], ◌∷◌, Result, Err, refl}
 use Rattle.std.proofs.Common.{sym, ◌∙◌, ap, subst, inl, inr, arith}
 use Rattle.std.proofs.lemmas.Option.{same_Some}
 use Rattle.gx_base.specs.Plans.{Operator}
@@ -115,3 +115,7 @@ module _ (op : Operator) (m : Machine) (workers : ℕ) (schedule : List ℕ) whe
   found_stop stops.Spent f l h = inl (ap stop_of (one_limit limit.Spent l (f limit.Spent refl) h))
   found_stop stops.Kept f l h = inl (ap stop_of (one_limit limit.Kept l (f limit.Kept refl) h))
   found_stop stops.NoMemory f l h = inr refl
+
+pub as_results : (A : Type 0) (stop x y : Stop) → (stop ≡ x) ⊎ (stop ≡ y) → let failed : Stop → Result A Stop = λ s. Err s in (failed stop ≡ failed x) ⊎ (failed stop ≡ failed y)
+as_results A stop x y (inl e) = inl (ap Err e)
+as_results A stop x y (inr e) = inr (ap Err e)

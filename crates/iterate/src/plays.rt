@@ -45,8 +45,9 @@ fn begin_sessions<O: Operator>(
     let mut sessions = Vec::new(alloc);
     for worker in 0..workers {
         let session = Session::new(alloc, worker);
-        if sessions.push(session).is_err() {
-            return Err(Stop::NoMemory);
+        match sessions.push(session) {
+            Ok(()) => {}
+            Err(_) => return Err(Stop::NoMemory),
         }
     }
     Ok(sessions)
