@@ -11,3 +11,5 @@ pub mod TakeTurns
 pub mod GivingUp
 pub mod CallTurns
 pub mod ReleaseSteps
+pub mod LeftRooms
+pub mod ReleaseTurns
