@@ -1,8 +1,11 @@
 -- The turns of a session that makes a commit.
-use Rattle.std.specs.Prelude.{◌≡◌, ◌≢◌, ◌⊎◌, ℕ, ◌<◌, ◌≤◌, Bool, true, false, ◌||◌, ◌==◌, if◌then◌else◌, Option, Some, None, List, [], ◌∷◌, ◌++◌, length, is_some, Result, Ok, Err, refl, ⊤}
+use Rattle.std.specs.Prelude.{◌≡◌, ◌≢◌, ◌⊎◌, ℕ, ◌+◌, ◌<◌, ◌≤◌, Bool, true, false, ◌||◌, ◌==◌, if◌then◌else◌, Option, Some, None, List, [], ◌∷◌, ◌++◌, length, is_some, Result, Ok, Err, refl, ⊤}
+use Rattle.std.specs.Cmp.{nat_eq_equiv}
+use Rattle.std.proofs.lemmas.List.{length_push}
 use Rattle.std.proofs.Common.{sym, ◌∙◌, ap, subst, inl, inr, arith}
 use Rattle.gx_base.specs.declared.acts.Entry.{Entry}
 use Rattle.gx_base.specs.declared.acts.Step.{Step}
+use Rattle.gx_base.specs.Outcomes.{WholeCommit}
 use Rattle.gx_base.specs.Plans.{Operator}
 use Rattle.gx_base.specs.Replays.{part, put}
 use Rattle.gx_base.specs.RoomViews.{RoomView}
@@ -14,7 +17,7 @@ use Rattle.speculation.specs.Machines.{Place}
 use Rattle.speculation.proofs.Putting.{no_bool, numbers_equal, same_number}
 use Rattle.speculation.proofs.GateTurns.{log_releases}
 use Rattle.rooms.specs.RoomsViews.{RoomsView, is_held, commits_in, commits_entered, entries_for, told_with, left as rooms_left}
-use Rattle.rooms.specs.HandedOut.{IsLost}
+use Rattle.rooms.specs.HandedOut.{IsLost, HasRisen}
 use Rattle.rooms.specs.Values.{tells}
 use Rattle.rooms.specs.declared.values.Value.{Value}
 use Rattle.rooms.specs.declared.values.Value.TheVariants.{Object, Book}
@@ -154,6 +157,14 @@ module _ {T S : Type 0} (op : Operator) (a mid b : RoomsView (Value T S)) (s t :
       beyond = λ room l. q_kept room (beyond_front room l);
     }
 
+other_by : (front now : List ℕ) (r : ℕ) → AreRising (front ++ now) → is_among now r ≡ true → (b : Bool) → is_among front r ≡ b → is_among front r ≡ false
+other_by front now r h m true e = absurd (no_bool (is_among now r) m (apart front now r h e))
+other_by front now r h m false e = e
+
+-- a room of the rest isn't among the first ones
+other_part : (front now : List ℕ) (r : ℕ) → AreRising (front ++ now) → is_among now r ≡ true → is_among front r ≡ false
+other_part front now r h m = other_by front now r h m (is_among front r) refl
+
 -- ---- the turns
 
 module _ {T S St : Type 0} (op : Operator) (a b : RoomsView (Value T S)) (rest : Rests St) (c : Core) (book : BookView) (number : ℕ) (left : List ℕ) where
@@ -191,16 +202,125 @@ module _ {T S St : Type 0} (op : Operator) (a b : RoomsView (Value T S)) (rest :
   abbrev closed_view : SessionView
   closed_view = view_in rest closed code.Idle
 
+  -- how many commits the book has
+  count_made : IsFit op a making → length book.commits ≡ number + 1
+  count_made fit = ap (λ (xs : List WholeCommit). length xs) (commit_of fit).last ∙ length_push (commit_of fit).earlier _ ∙ ap (λ n. n + 1) (sym (commit_of fit).number)
+
   pub may_leave : (mid : RoomsView (Value T S)) → IsFit op a making → AreReleased a mid c.worker c.iter number left → MayLeaveBook mid book
-  may_leave mid fit h = ?
+  may_leave mid fit h =
+      let count : commits_entered mid ≡ number = (λ i. commits_in (h.held i (h.book i))) ∙ fit.doing.3 in
+      let more : length book.commits ≡ number + 1 = count_made fit in
+      record {
+        held = (λ i. is_some (h.held i (h.book i))) ∙ held_of fit a.book ∙ same_number a.book;
+        ordered = book_ordered fit ∙ sym h.ordered;
+        commits = record { kept = omega arith; more = λ room r. omega arith };
+      }
+
+  b_free_by : (mid : RoomsView (Value T S)) → IsFit op a making → AreReleased a mid c.worker c.iter number left → (room : ℕ) (k : Bool) → (mid.book == room) ≡ k → is_some (put mid.held mid.book None room) ≡ false
+  b_free_by mid fit h room true e = ap (λ (o : Option RoomView). is_some o) (ap (put mid.held mid.book None) (sym (numbers_equal mid.book room e)) ∙ put_same mid.held mid.book None)
+  b_free_by mid fit h room false e =
+      ap (λ (o : Option RoomView). is_some o) (put_other mid.held mid.book None room e ∙ ap (λ f. f room) h.held) ∙ held_of fit room ∙ nat_eq_equiv.symm room a.book ∙ ap (λ n. n == room) (sym h.book) ∙ e
 
   b_free : (mid : RoomsView (Value T S)) → IsFit op a making → AreReleased a mid c.worker c.iter number left → b ≡ rooms_left tells mid mid.book (Book book) → (room : ℕ) → is_held b room ≡ false
-  b_free mid fit h leaves = ?
+  b_free mid fit h leaves room = ap (λ (v : RoomsView (Value T S)). is_held v room) leaves ∙ b_free_by mid fit h room (mid.book == room) refl
+
+  book_told : (mid : RoomsView (Value T S)) → b ≡ rooms_left tells mid mid.book (Book book) → IsBookIn b None book
+  book_told mid leaves =
+      subst (λ (o : Option (Value T S)). IfTold o (λ value. book ≡ book_of value))
+      (sym ((λ i. b.told (ap (λ (v : RoomsView (Value T S)). v.book) leaves i)) ∙ ap (λ (v : RoomsView (Value T S)). v.told mid.book) leaves ∙ put_same mid.told mid.book (told_with (mid.told mid.book) (Book book))))
+      (told_book_itself (mid.told mid.book) book (λ z. book ≡ z) refl)
 
   pub commit_turn : (mid : RoomsView (Value T S)) → IsFit op a making → AreReleased a mid c.worker c.iter number left → b ≡ rooms_left tells mid mid.book (Book book) → TakesTurn op a b making closed_view (Ok (events.Commit number))
-  commit_turn mid fit h leaves = ?
+  commit_turn mid fit h leaves =
+      let s : SessionView = making in
+      let t : SessionView = closed_view in
+      let after : SameGates mid b = subst (SameGates mid) (sym leaves) (book_gates mid book (book_ordered fit ∙ sym h.ordered)) in
+      let below : AreBelow a.book left = below_of fit in
+      let gates : ℕ → GateView = gates_then op a mid b s t left c.iter number fit h after refl below in
+      let p : Place = record { gates = gates; book = book; session = s.at } in
+      let q : Place = record { gates = released gates left c.worker c.iter number; book = book; session = t.at } in
+      let stay : (room : ℕ) → is_among left room ≡ false → part room [] ≡ part room steps = λ room e. sym (part_left room ∙ ap (λ (k : Bool). if k then part room c.log else []) e) in
+      let l : AreLeft a b s t p q = release_left op a mid b s t left c.iter number fit h after refl below refl refl refl (λ room e. refl) stay book book in
+      record {
+        has_turned =
+            turned op a b s t p q l (release_stands op a mid b s t left c.iter number fit h after refl below book refl (book_ordered fit)) fit refl refl (book_told mid leaves) (book_ordered fit) None
+            (no_loss a b s (λ room. ap (λ (v : RoomsView (Value T S)). v.lost room) leaves ∙ ap (λ f. f room) h.lost)) (Ok (events.Commit number))
+            (record { event_is = refl; place_is = refl; opened_is = refl; pushed_is = refl }, tt, tt);
+        is_fit = fits a b s t p q l fit.acts refl op fit tt (b_free mid fit h leaves, refl);
+      }
 
   -- ---- a room was held
 
+  cut_fits : (now front : List ℕ) (mid : RoomsView (Value T S)) (room : ℕ) → IsFit op a making → IsCommitOf op making made → left ≡ front ++ now → AreRising (front ++ now) → ((r : ℕ) → is_among now r ≡ true → is_among left r ≡ true)
+      → AreReleased a mid c.worker c.iter number front → IsLost mid b room → IsFitIn op b (view_in rest c (code.Committing book number now)) (Some (record { book = book; number = number; left = now }))
+  cut_fits now front mid room fit k parts rising fewer h loss =
+      let held : b.held ≡ a.held = ap (λ (v : RoomsView (Value T S)). v.held) loss.same ∙ h.held in
+      let book_is : b.book ≡ a.book = ap (λ (v : RoomsView (Value T S)). v.book) loss.same ∙ h.book in
+      (
+        (λ r. ap (λ (f : ℕ → Option RoomView). is_some (f r)) held ∙ held_of fit r ∙ ap (λ n. r == n) (sym book_is)),
+        record {
+          earlier = k.earlier;
+          steps = k.steps;
+          runs = k.runs;
+          last = k.last;
+          number = k.number;
+          rising = rising_end front now rising;
+          below = below_end op.rooms front now (subst (AreBelow op.rooms) parts k.below);
+          log = sym (steps_in_twice now left fewer c.log) ∙ ap (λ (xs : List Step). steps_in now xs) k.log ∙ steps_in_twice now left fewer k.steps;
+        },
+        book_ordered fit ∙ sym (ap (λ (v : RoomsView (Value T S)). v.ordered) loss.same ∙ h.ordered),
+        (λ i. commits_in (held i (book_is i))) ∙ fit.doing.3,
+        (λ r e. ap (λ (v : RoomsView (Value T S)). v.released r) loss.same ∙ h.released r (other_part front now r rising e) ∙ fit.doing.4 r (fewer r e)),
+      )
+
+  cut_others : (mid : RoomsView (Value T S)) (room other : ℕ) → IsLost mid b room → mid.lost ≡ a.lost → Some room ≢ Some other → (k : Bool) → (room == other) ≡ k → b.lost other ≡ a.lost other
+  cut_others mid room other loss same n true e = absurd (n (ap Some (numbers_equal room other e)))
+  cut_others mid room other loss same n false e = ap (λ (v : RoomsView (Value T S)). v.lost other) loss.same ∙ put_other mid.lost room (b.lost room) other e ∙ ap (λ f. f other) same
+
   pub cut_turn : (now : List ℕ) → IsFit op a making → IsCutShort a b c.worker c.iter number left now → TakesTurn op a b making (view_in rest c (code.Committing book number now)) (Ok events.Busy)
-  cut_turn now fit h = ?
+  cut_turn now fit h =
+      let s : SessionView = making in
+      let t : SessionView = view_in rest c (code.Committing book number now) in
+      let k : IsCommitOf op making made = commit_of fit in
+      let parts : left ≡ h.front ++ now = h.rooms_are ∙ ap (λ (xs : List ℕ). h.front ++ xs) (sym h.left_is) in
+      let rising : AreRising (h.front ++ now) = subst AreRising parts k.rising in
+      let below : AreBelow a.book h.front = below_front a.book h.front now (subst (AreBelow a.book) parts (below_of fit)) in
+      let new : is_among h.front h.room ≡ false = not_in_front h.front h.room h.rest (subst AreRising h.rooms_are k.rising) in
+      let after : SameGates h.mid b = lost_gates h.mid b h.room h.loss in
+      let among : (room : ℕ) → is_among h.front room ≡ false → is_among now room ≡ is_among left room =
+      λ room e. sym (ap (λ (xs : List ℕ). is_among xs room) parts ∙ among_both h.front now room ∙ ap (λ (x : Bool). x || is_among now room) e) in
+      let fewer : (room : ℕ) → is_among now room ≡ true → is_among left room ≡ true =
+      λ room e. ap (λ (xs : List ℕ). is_among xs room) parts ∙ among_both h.front now room ∙ or_right (is_among h.front room) (is_among now room) e in
+      let gone : (room : ℕ) → is_among h.front room ≡ true → part room (steps_in now c.log) ≡ [] = λ room e. part_in now room c.log ∙ ap (λ (x : Bool). if x then part room c.log else []) (apart h.front now room rising e) in
+      let stay : (room : ℕ) → is_among h.front room ≡ false → part room (steps_in now c.log) ≡ part room steps = λ room e. part_in now room c.log ∙ ap (λ (x : Bool). if x then part room c.log else []) (among room e) ∙ sym (part_left room) in
+      let gates : ℕ → GateView = gates_then op a h.mid b s t h.front c.iter number fit h.front_released after refl below in
+      let p : Place = record { gates = gates; book = book; session = s.at } in
+      let q : Place = record { gates = released gates h.front c.worker c.iter number; book = book; session = t.at } in
+      let l : AreLeft a b s t p q = release_left op a h.mid b s t h.front c.iter number fit h.front_released after refl below refl refl refl gone stay book book in
+      let front_is : h.front ≡ before left h.room = sym (ap (λ (xs : List ℕ). before xs h.room) h.rooms_are ∙ before_is h.front h.room h.rest new) in
+      let left_is : now ≡ on_from left h.room = h.left_is ∙ sym (ap (λ (xs : List ℕ). on_from xs h.room) h.rooms_are ∙ on_from_is h.front h.room h.rest new) in
+      let log_is : steps_in now c.log ≡ steps_in (on_from left h.room) steps = sym (steps_in_twice now left fewer c.log) ∙ ap (λ (xs : List ℕ). steps_in xs steps) left_is in
+      let needed : is_among left h.room ≡ true = ap (λ (xs : List ℕ). is_among xs h.room) h.rooms_are ∙ among_at h.front h.room h.rest in
+      record {
+        has_turned =
+            turned op a b s t p q l (release_stands op a h.mid b s t h.front c.iter number fit h.front_released after refl below book refl (book_ordered fit)) fit refl refl refl (book_ordered fit) (Some h.room)
+            (record {
+              needed = λ other e. subst (λ r. needs a.book s r ≡ true) (some_number e) needed;
+              risen = λ other e. subst (λ r. HasRisen (a.lost r) (b.lost r)) (some_number e) (subst (λ f. HasRisen (f h.room) (b.lost h.room)) h.front_released.lost h.loss.risen);
+              others = λ other m. cut_others h.mid h.room other h.loss h.front_released.lost m (h.room == other) refl;
+            })
+            (Ok events.Busy)
+            (
+              record {
+                event_is = refl;
+                place_is = λ i. record { gates = released gates (front_is i) c.worker c.iter number; book = book; session = record t.at { outcome = record { steps = log_is i; pushes = c.pushes; withdrawn = [] } } };
+                opened_is = λ i. Some (record { book = book; number = number; left = left_is i });
+                pushed_is = refl;
+              },
+              tt,
+              tt,
+            );
+        is_fit = fits a b s t p q l fit.acts refl op fit
+        (subst (AreWithin op.rooms) (steps_in_twice now left fewer c.log) (steps_within op.rooms now steps fit.within))
+        (cut_fits now h.front h.mid h.room fit k parts rising fewer h.front_released h.loss);
+      }
