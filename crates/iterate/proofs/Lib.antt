@@ -13,3 +13,4 @@ pub mod CallTurns
 pub mod ReleaseSteps
 pub mod LeftRooms
 pub mod ReleaseTurns
+pub mod FinishTurns
