@@ -14,3 +14,5 @@ pub mod ReleaseSteps
 pub mod LeftRooms
 pub mod ReleaseTurns
 pub mod FinishTurns
+pub mod LogRooms
+pub mod CommitTurns

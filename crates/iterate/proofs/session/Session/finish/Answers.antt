@@ -1,4 +1,5 @@
 use Rattle.iterate.proofs.FinishTurns.{finish_lost}
+use Rattle.iterate.proofs.CommitTurns.{commit_fits}
 use Rattle.iterate.proofs.session.Session.finish.Goals as goal
 
 pub release-requires : goal.release-requires
