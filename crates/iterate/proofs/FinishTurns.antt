@@ -52,7 +52,7 @@ refuses b item steps e =
     ap (λ (o : Bool). or_else (only_if (not (has_item b.ready item)) NotReady) (or_else (if o then not_least (least_before b.ready item) else None) (or_else (only_if (is_spent b) Spent) (only_if (is_past_journal b steps) Kept)))) e
 
 -- what is so where a book answers so
-abbrev Because : CommitRefuse → Bool → Bool → Bool → Type 0
+abbrev pub Because : CommitRefuse → Bool → Bool → Bool → Type 0
 Because NotReady ready spent past = ready ≡ false
 Because (NotLeast least) ready spent past = ⊥
 Because Spent ready spent past = (ready ≡ true) × (spent ≡ true)

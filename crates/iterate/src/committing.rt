@@ -56,6 +56,7 @@ impl<O: Operator> Session<O> {
         rooms: &mut R,
         op: &O,
     ) -> Result<Event, Stop>
+        requires unordered { O.is_ordered op.now ≡ false }
         requires fit { IsFit (operator_of O.Operator op.now) (R.view rooms.old) (view_of (O.rest op.now) self.old) }
         requires phase { self.old.phase ≡ phases.Finished }
         ensures turn { TakesTurn (operator_of O.Operator op.now) (R.view rooms.old) (R.view rooms.new) (view_of (O.rest op.now) self.old) (view_of (O.rest op.now) self.new) result }
