@@ -16,3 +16,4 @@ pub mod ReleaseTurns
 pub mod FinishTurns
 pub mod LogRooms
 pub mod CommitTurns
+pub mod GoTurns
