@@ -28,7 +28,7 @@ use Rattle.iterate.specs.declared.events.Stop.{Stop}
 use Rattle.iterate.specs.declared.events.Stop.TheVariants as stops
 use Rattle.iterate.specs.declared.session.Phase.{Phase as CodePhase}
 use Rattle.iterate.specs.declared.session.Phase.TheVariants as code
-use Rattle.iterate.specs.Bodies.{IsAtWork, IsAsking, HasGoneOn}
+use Rattle.iterate.specs.Bodies.{IsAtWork, IsAskedIn, IsAsking, HasGoneOn}
 use Rattle.iterate.specs.Needs.{come_to, gone_on, asks_in, to_put_back, needs_in, needs}
 use Rattle.iterate.specs.Places.{IsLogIn, IsLogOf, IsFit, IsBody, IsAskedWithin, IsBookIn, StandsOn}
 use Rattle.iterate.specs.RoomLists.{is_among, rooms_of}
@@ -37,7 +37,7 @@ use Rattle.iterate.specs.SharedTurns.{Shared, cut_at, shared_in, given_back, sto
 use Rattle.iterate.specs.Turns.{TakesTurn, HasTurned, Answers, IsAfter, TellsRight, GoesWell, IsCutIn, IsCause, event_of, limit_on, is_conflict, is_commit, may_stop_at}
 use Rattle.iterate.specs.Visits.{GaveUp}
 use Rattle.iterate.proofs.BookTurns.{free_of, body_of}
-use Rattle.iterate.proofs.CallTurns.{stopped_turn}
+use Rattle.iterate.proofs.CallTurns.{asked_call, stopped_turn}
 use Rattle.iterate.proofs.GivingUp.{Quiet, quiet_itself}
 use Rattle.iterate.proofs.UndoTurns.{or_left, or_right}
 
@@ -236,3 +236,91 @@ module _ {T S : Type 0} (op : Operator) (a b : RoomsView (Value T S)) (c : Core)
 
   needs_running : has_no_step c.log ≡ true → needs a.book running a.book ≡ true
   needs_running e = needs_gone a.book running.at plan c.pushes e
+
+-- ---- the code's phases
+
+asked_below : (room : ℕ) (call : CallOf) {n : ℕ} (asked : Option (ℕ × CallOf)) → asked ≡ asked_call room call → IsAskedIn n asked → room < n
+asked_below room call {n} asked e h = let k : IsAskedIn n (asked_call room call) = subst (IsAskedIn n) e h in k
+
+not_idle : (plan : Plan) → Running plan ≢ Idle
+not_idle plan e = cc
+
+finished_not_idle : Finished ≢ Idle
+finished_not_idle e = cc
+
+module _ {T S St : Type 0} (op : Operator) (a b : RoomsView (Value T S)) (rest : Rests St) (c : Core) (pushes : List Item) where
+  abbrev further_core : Core
+  further_core = record c { pushes = pushes }
+
+  lift_by : (f g : CodePhase St) (asked : Option (ℕ × CallOf)) → IsAtWork f → IsAsking asked g → at_in rest further_core g ≡ gone_on (at_in rest c f) → (t : SessionView) (r : Result CodeEvent Stop)
+      → TakesTurn op a b (view_in rest further_core g) t r → TakesTurn op a b (view_in rest c f) t r
+  lift_by code.Idle g asked w k e t r h = absurd w
+  lift_by (code.Running st last) code.Idle asked w k e t r h = absurd k
+  lift_by (code.Running st last) (code.Running to reply) asked w k e t r h = absurd k
+  lift_by (code.Running st last) (code.Asking to room call) asked w k e t r h =
+      goes_on_first op a b c pushes (rest st last) (phase_of rest (code.Asking to room call)) None (Some room) e t r (not_idle (Call room call (λ reply. rest to (Some reply)))) h
+  lift_by (code.Running st last) code.Finished asked w k e t r h = goes_on_first op a b c pushes (rest st last) Finished None None e t r finished_not_idle h
+  lift_by (code.Running st last) (code.Committing book number left) asked w k e t r h = absurd k
+  lift_by (code.Running st last) code.Undoing asked w k e t r h = absurd k
+  lift_by (code.Asking st x y) code.Idle asked w k e t r h = absurd k
+  lift_by (code.Asking st x y) (code.Running to reply) asked w k e t r h = absurd k
+  lift_by (code.Asking st x y) (code.Asking to room call) asked w k e t r h =
+      goes_on_first op a b c pushes (Call x y (λ reply. rest st (Some reply))) (phase_of rest (code.Asking to room call)) (Some x) (Some room) e t r (not_idle (Call room call (λ reply. rest to (Some reply)))) h
+  lift_by (code.Asking st x y) code.Finished asked w k e t r h = goes_on_first op a b c pushes (Call x y (λ reply. rest st (Some reply))) Finished (Some x) None e t r finished_not_idle h
+  lift_by (code.Asking st x y) (code.Committing book number left) asked w k e t r h = absurd k
+  lift_by (code.Asking st x y) code.Undoing asked w k e t r h = absurd k
+  lift_by code.Finished g asked w k e t r h = absurd w
+  lift_by (code.Committing book number left) g asked w k e t r h = absurd w
+  lift_by code.Undoing g asked w k e t r h = absurd w
+
+  fits_by : (f g : CodePhase St) (asked : Option (ℕ × CallOf)) → IsAtWork f → IsAsking asked g → IsAskedIn op.rooms asked → at_in rest further_core g ≡ gone_on (at_in rest c f) → IsFit op a (view_in rest c f) → IsFit op a (view_in rest further_core g)
+  fits_by code.Idle g asked w k m e fit = absurd w
+  fits_by (code.Running st last) code.Idle asked w k m e fit = absurd k
+  fits_by (code.Running st last) (code.Running to reply) asked w k m e fit = absurd k
+  fits_by (code.Running st last) (code.Asking to room call) asked w k m e fit =
+      gone_fits op a a c pushes (rest st last) (phase_of rest (code.Asking to room call)) None (Some room) e fit (asked_below room call asked k m)
+  fits_by (code.Running st last) code.Finished asked w k m e fit = gone_fits op a a c pushes (rest st last) Finished None None e fit tt
+  fits_by (code.Running st last) (code.Committing book number left) asked w k m e fit = absurd k
+  fits_by (code.Running st last) code.Undoing asked w k m e fit = absurd k
+  fits_by (code.Asking st x y) code.Idle asked w k m e fit = absurd k
+  fits_by (code.Asking st x y) (code.Running to reply) asked w k m e fit = absurd k
+  fits_by (code.Asking st x y) (code.Asking to room call) asked w k m e fit =
+      gone_fits op a a c pushes (Call x y (λ reply. rest st (Some reply))) (phase_of rest (code.Asking to room call)) (Some x) (Some room) e fit (asked_below room call asked k m)
+  fits_by (code.Asking st x y) code.Finished asked w k m e fit = gone_fits op a a c pushes (Call x y (λ reply. rest st (Some reply))) Finished (Some x) None e fit tt
+  fits_by (code.Asking st x y) (code.Committing book number left) asked w k m e fit = absurd k
+  fits_by (code.Asking st x y) code.Undoing asked w k m e fit = absurd k
+  fits_by code.Finished g asked w k m e fit = absurd w
+  fits_by (code.Committing book number left) g asked w k m e fit = absurd w
+  fits_by code.Undoing g asked w k m e fit = absurd w
+
+module _ {T S St : Type 0} (op : Operator) (a b : RoomsView (Value T S)) (rest : Rests St) (c new : Core) (f g : CodePhase St) (asked : Option (ℕ × CallOf)) (w : IsAtWork f) (h : HasGoneOn rest c new f g asked) where
+  pub go_lift : (t : SessionView) (r : Result CodeEvent Stop) → TakesTurn op a b (view_in rest new g) t r → TakesTurn op a b (view_in rest c f) t r
+  go_lift t r k =
+      subst (λ (x : Core). at_in rest x g ≡ gone_on (at_in rest c f) → TakesTurn op a b (view_in rest x g) t r → TakesTurn op a b (view_in rest c f) t r) (sym h.core) (λ e m. lift_by op a b rest c new.pushes f g asked w h.phase e t r m) h.at k
+
+  pub go_fits : IsAskedIn op.rooms asked → IsFit op a (view_in rest c f) → IsFit op a (view_in rest new g)
+  go_fits m fit =
+      subst (λ (x : Core). at_in rest x g ≡ gone_on (at_in rest c f) → IsFit op a (view_in rest x g)) (sym h.core) (λ e. fits_by op a b rest c new.pushes f g asked w h.phase m e fit) h.at
+
+-- ---- memory is wanting before the body has gone on
+
+module _ {T S St : Type 0} (op : Operator) (a b : RoomsView (Value T S)) (rest : Rests St) (c new : Core) (phase : CodePhase St) where
+  pub go_stops : (f : CodePhase St) → IsAtWork f → IsFit op a (view_in rest c f) → GaveUp a b (record c { pushes = [] }) new phase → TakesTurn op a b (view_in rest c f) (view_in rest new phase) (Err stops.NoMemory)
+  go_stops code.Idle w fit k = absurd w
+  go_stops (code.Running st last) w fit k =
+      stopped_turn op a a b rest c (view_in rest c (code.Running st last)) (rest st last) None refl fit (quiet_itself a (free_of op a (view_in rest c (code.Running st last)) fit refl))
+      (needs_running op a b c [] (rest st last) Idle None None) new phase k
+  go_stops (code.Asking st x y) w fit k =
+      stopped_turn op a a b rest c (view_in rest c (code.Asking st x y)) (Call x y (λ reply. rest st (Some reply))) (Some x) refl fit (quiet_itself a (free_of op a (view_in rest c (code.Asking st x y)) fit refl))
+      (needs_running op a b c [] (Call x y (λ reply. rest st (Some reply))) Idle (Some x) None) new phase k
+  go_stops code.Finished w fit k = absurd w
+  go_stops (code.Committing book number left) w fit k = absurd w
+  go_stops code.Undoing w fit k = absurd w
+
+  pub go_free : (f : CodePhase St) → IsAtWork f → IsFit op a (view_in rest c f) → (room : ℕ) → is_held a room ≡ false
+  go_free code.Idle w fit = absurd w
+  go_free (code.Running st last) w fit = free_of op a (view_in rest c (code.Running st last)) fit refl
+  go_free (code.Asking st x y) w fit = free_of op a (view_in rest c (code.Asking st x y)) fit refl
+  go_free code.Finished w fit = absurd w
+  go_free (code.Committing book number left) w fit = absurd w
+  go_free code.Undoing w fit = absurd w
