@@ -46,7 +46,7 @@ use Rattle.iterate.proofs.GateVisits.{gate_place, gate_stands, gate_turn, gate_l
 use Rattle.iterate.proofs.GivingUp.{Quiet, quiet_itself, quiet_visit, gave_up_turn}
 use Rattle.iterate.proofs.UndoTurns.{over, or_left, or_right, unless_true, where_true}
 
-abbrev asked_call : ℕ → CallOf → Option (ℕ × CallOf)
+abbrev pub asked_call : ℕ → CallOf → Option (ℕ × CallOf)
 asked_call room call = Some (room, call)
 
 some_pair : {x y : ℕ × CallOf} → Some x ≡ Some y → x ≡ y

@@ -18,3 +18,9 @@ pub mod CallTurns
 pub mod ReleaseSteps
 pub mod WholeRuns
 pub mod Beginnings
+pub mod LeftRooms
+pub mod ReleaseTurns
+pub mod FinishTurns
+pub mod LogRooms
+pub mod CommitTurns
+pub mod GoTurns

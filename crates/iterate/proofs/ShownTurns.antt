@@ -18,3 +18,6 @@ module _ {T S St : Type 0} (op : Operator) (a b : RoomsView (Value T S)) (rest :
       subst (λ x. TakesTurn op a b (view_in rest c x) (view_in rest d h) r) (sym p)
       (subst (λ x. TakesTurn op a b (view_in rest c g) (view_in rest x h) r) (sym q)
       (subst (λ x. TakesTurn op a b (view_in rest c g) (view_in rest e x) r) (sym s) (turn (subst (λ x. IsFit op a (view_in rest c x)) p fit))))
+
+pub fit_in_phase : {T S St : Type 0} (op : Operator) (a : RoomsView (Value T S)) (rest : Rests St) (c : Core) (f g : CodePhase St) → f ≡ g → IsFit op a (view_in rest c f) → IsFit op a (view_in rest c g)
+fit_in_phase op a rest c f g e fit = subst (λ x. IsFit op a (view_in rest c x)) e fit

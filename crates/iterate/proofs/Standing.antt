@@ -237,6 +237,15 @@ module _ {T S : Type 0} where
     book_ordered None h = refl
     book_ordered (Some value) h = h
 
+    pub base_gates_told : (room : ℕ) → room < a.book → IfTold (a.told room) (λ value. base_gates a room ≡ gate_of value)
+    base_gates_told room l = subst (λ (g : GateView). IfTold (a.told room) (λ value. g ≡ gate_of value)) (sym (base_below room l)) (base_told (a.told room) (a.live room))
+
+    pub base_no_others : (room : ℕ) → a.book ≤ room → base_gates a room ≡ no_gate
+    base_no_others room l = base_beyond room l
+
+    pub base_logs : (room : ℕ) → room < a.book → IsLogOf room s (base_gates a room).live
+    base_logs room l = subst (λ (g : GateView). IsLogOf room s g.live) (sym (base_below room l)) (base_log room (a.told room) (a.live room) (fit.live room l) (fit.live_told room l))
+
     pub base_stands : s.opened ≡ None → StandsOn a s (base_place a s)
     unfolding base_book_in
     base_stands none = record {

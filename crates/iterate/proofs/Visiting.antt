@@ -78,11 +78,11 @@ module _ {T S : Type 0} where
     told = λ room l. put_other a.told a.book _ room (other_than_book a.book room l);
   }
 
-  abbrev OrderedTold : ℕ → Bool → (ℕ → Option (Value T S)) → Type 0
+  abbrev pub OrderedTold : ℕ → Bool → (ℕ → Option (Value T S)) → Type 0
   OrderedTold book ordered told = IfTold (told book) (λ value. (book_of value).ordered ≡ ordered)
 
   -- what is told of the book's order, under other names of the room and the order
-  carried : (x y : ℕ) (o u : Bool) (f g : ℕ → Option (Value T S)) → y ≡ x → u ≡ o → (OrderedTold y u f → OrderedTold y u g) → OrderedTold x o f → OrderedTold x o g
+  pub carried : (x y : ℕ) (o u : Bool) (f g : ℕ → Option (Value T S)) → y ≡ x → u ≡ o → (OrderedTold y u f → OrderedTold y u g) → OrderedTold x o f → OrderedTold x o g
   carried x y o u f g e d h l =
       let m : OrderedTold y u f = subst (λ n. OrderedTold n u f) (sym e) (subst (λ w. OrderedTold x w f) (sym d) l) in
       subst (λ w. OrderedTold x w g) d (subst (λ n. OrderedTold n u g) e (h m))

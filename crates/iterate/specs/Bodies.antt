@@ -56,3 +56,12 @@ IsNoted reply (code.Asking st room call) after = after ≡ code.Running st (Some
 IsNoted reply code.Finished after = ⊤
 IsNoted reply (code.Committing book number left) after = ⊤
 IsNoted reply code.Undoing after = ⊤
+
+-- a session makes a commit
+abbrev pub IsCommitting : {St : Type 0} → CodePhase St → Type 0
+IsCommitting code.Idle = ⊥
+IsCommitting (code.Running st last) = ⊥
+IsCommitting (code.Asking st room call) = ⊥
+IsCommitting code.Finished = ⊥
+IsCommitting (code.Committing book number left) = ⊤
+IsCommitting code.Undoing = ⊥

@@ -3,6 +3,7 @@ ghost use Rattle.commit_book.specs.BookViews.{commit, put_back};
 ghost use Rattle.commit_book.specs.LawfulBooks.{refusal};
 ghost use Rattle.commit_book.specs.SerialRuns.{operator_of};
 ghost use Rattle.speculation.specs.Sessions.{has_no_step};
+ghost use Rattle.iterate.specs.Bodies.{IsCommitting};
 ghost use Rattle.iterate.specs.Places.{IsFit};
 ghost use Rattle.iterate.specs.RoomLists.{rooms_of};
 ghost use Rattle.iterate.specs.SessionViews.{core_of, view_in, view_of};
@@ -56,6 +57,7 @@ impl<O: Operator> Session<O> {
         rooms: &mut R,
         op: &O,
     ) -> Result<Event, Stop>
+        requires unordered { O.is_ordered op.now ≡ false }
         requires fit { IsFit (operator_of O.Operator op.now) (R.view rooms.old) (view_of (O.rest op.now) self.old) }
         requires phase { self.old.phase ≡ phases.Finished }
         ensures turn { TakesTurn (operator_of O.Operator op.now) (R.view rooms.old) (R.view rooms.new) (view_of (O.rest op.now) self.old) (view_of (O.rest op.now) self.new) result }
@@ -133,8 +135,25 @@ impl<O: Operator> Session<O> {
         self.give_up_in(book);
     }
 
-    /// Releases the iteration of a commit in the rooms that are left, and then leaves the book.
-    pub(crate) fn release<R: Rooms<Value<T, S>>, T: SeqType, S: Screen<T>>(
+    /// A committing session goes on with its releases.
+    pub(crate) fn release_on<R: Rooms<Value<T, S>>, T: SeqType, S: Screen<T>>(
+        &mut self,
+        rooms: &mut R,
+        op: &O,
+    ) -> Event
+        requires fit { IsFit (operator_of O.Operator op.now) (R.view rooms.old) (view_of (O.rest op.now) self.old) }
+        requires phase { IsCommitting self.old.phase }
+        ensures turn { TakesTurn (operator_of O.Operator op.now) (R.view rooms.old) (R.view rooms.new) (view_of (O.rest op.now) self.old) (view_of (O.rest op.now) self.new) (Ok result) }
+        ensures loan { R.loan rooms.new ≡ R.loan rooms.old }
+    {
+        match mem::replace(&mut self.phase, Phase::Idle) {
+            Phase::Committing { book, number, left } => self.release(rooms, op, book, number, left),
+            _ => Event::Busy,
+        }
+    }
+
+    // Releases the iteration of a commit in the rooms that are left, and then leaves the book.
+    fn release<R: Rooms<Value<T, S>>, T: SeqType, S: Screen<T>>(
         &mut self,
         rooms: &mut R,
         _op: &O,

@@ -12,7 +12,6 @@ use gate_core::Screen;
 use gx_base::{Call, Item, Reply, Room, SeqType, Step};
 use rooms::{Rooms, Value};
 use std::alloc::Global;
-use std::mem;
 
 /// What a session is at.
 #[derive(Drop)]
@@ -110,21 +109,13 @@ impl<O: Operator> Session<O> {
         ensures fit { IsFit (operator_of O.Operator op.now) (R.view rooms.new) (view_of (O.rest op.now) self.new) }
         ensures loan { R.loan rooms.new ≡ R.loan rooms.old }
     {
-        match mem::replace(&mut self.phase, Phase::Idle) {
+        match self.phase {
             Phase::Idle => self.take(rooms, op),
-            Phase::Finished => {
-                self.phase = Phase::Finished;
-                self.finish(rooms, op)
-            }
-            Phase::Committing { book, number, left } => Ok(self.release(rooms, op, book, number, left)),
-            Phase::Undoing => {
-                self.phase = Phase::Undoing;
-                Ok(self.undo(rooms, op))
-            }
-            working => {
-                self.phase = working;
-                self.go(rooms, op)
-            }
+            Phase::Running { .. } => self.go(rooms, op),
+            Phase::Asking { .. } => self.go(rooms, op),
+            Phase::Finished => self.finish(rooms, op),
+            Phase::Committing { .. } => Ok(self.release_on(rooms, op)),
+            Phase::Undoing => Ok(self.undo(rooms, op)),
         }
     }
 }
