@@ -11,7 +11,7 @@ use Rattle.speculation.specs.ScheduledRuns.{is_empty, Run, then_turned, schedule
 use Rattle.speculation.proofs.Putting.{no_bool}
 use Rattle.iterate.specs.declared.events.Stop.{Stop}
 use Rattle.iterate.specs.declared.events.Stop.TheVariants as stops
-use Rattle.iterate.specs.PlayedTurns.{IsTurn, IsStopped}
+use Rattle.iterate.specs.PlayedTurns.{IsTracedTurn, IsStopped}
 use Rattle.iterate.specs.Plays.{stop_of}
 use Rattle.iterate.specs.Turns.{IsCause}
 
@@ -25,13 +25,11 @@ pub stop_cause : (l : Limit) (o : Option Limit) → IsCause (stop_of l) o → o 
 stop_cause limit.Spent o h = h
 stop_cause limit.Kept o h = h
 
+pub not_for_memory : (l : Limit) → stop_of l ≡ stops.NoMemory → ⊥
+not_for_memory limit.Spent e = absurd (cc)
+not_for_memory limit.Kept e = absurd (cc)
+
 module _ (op : Operator) where
-  pub leads_first : (r : Run) (schedule : List ℕ) → LeadsOn op r schedule r schedule
-  leads_first r schedule = record { run = refl; limit = refl; asks = λ h. h }
-
-  next_of : Run → ℕ → Run
-  next_of r worker = then_turned r worker (turn_at op (place_of r.machine worker) worker)
-
   one_scheduled : (r : Run) (worker : ℕ) (rest : List ℕ) → is_empty r.machine.book.ready ≡ false → scheduled op r (worker ∷ rest) ≡ scheduled op (then_turned r worker (turn_at op (place_of r.machine worker) worker)) rest
   unfolding scheduled
   one_scheduled r worker rest e = ap (λ (b : Bool). if b then r else scheduled op (then_turned r worker (turn_at op (place_of r.machine worker) worker)) rest) e
@@ -42,21 +40,21 @@ module _ (op : Operator) where
   one_limited r worker rest e = ap (λ (b : Bool). if b then None else or_later (limit_in op r.machine worker) (limit_of_scheduled op (then_turned r worker (turn_at op (place_of r.machine worker) worker)) rest)) e
 
   -- one more turn
-  pub leads_more : (first now after : Run) (schedule rest : List ℕ) (worker : ℕ) (event : Event) → LeadsOn op first schedule now (worker ∷ rest) → is_empty now.machine.book.ready ≡ false
-      → IsTurn op now.machine after.machine worker event → after.trace ≡ then_turn now.trace worker event → LeadsOn op first schedule after rest
-  leads_more first now after schedule rest worker event h e t noted =
+  pub leads_more : (first now after : Run) (schedule rest : List ℕ) (worker : ℕ) → LeadsOn op first schedule now (worker ∷ rest) → is_empty now.machine.book.ready ≡ false → IsTracedTurn op now after worker → LeadsOn op first schedule after rest
+  leads_more first now after schedule rest worker h e t =
       let turned : Run = then_turned now worker (turn_at op (place_of now.machine worker) worker) in
-      let same : turned ≡ after = λ i. record { machine = sym t.machine_is i; trace = (ap (then_turn now.trace worker) (sym t.event_is) ∙ sym noted) i } in
+      let same : turned ≡ after = λ i. record { machine = sym t.turn_is.machine_is i; trace = (ap (then_turn now.trace worker) (sym t.turn_is.event_is) ∙ sym t.trace_is) i } in
       record {
         run = h.run ∙ one_scheduled now worker rest e ∙ ap (λ (r : Run). scheduled op r rest) same;
-        limit = h.limit ∙ one_limited now worker rest e ∙ ap (λ (o : Option Limit). or_later o (limit_of_scheduled op turned rest)) t.unlimited ∙ ap (λ (r : Run). limit_of_scheduled op r rest) same;
-        asks = λ k. h.asks (λ _. (t.asks, subst (λ (r : Run). ScheduledAsk op r rest) (sym same) k));
+        limit = h.limit ∙ one_limited now worker rest e ∙ ap (λ (o : Option Limit). or_later o (limit_of_scheduled op turned rest)) t.turn_is.unlimited ∙ ap (λ (r : Run). limit_of_scheduled op r rest) same;
+        asks = λ k. h.asks (λ _. (t.turn_is.asks, subst (λ (r : Run). ScheduledAsk op r rest) (sym same) k));
       }
 
   -- a turn that stops
   pub leads_to_stop : (first now : Run) (schedule rest : List ℕ) (worker : ℕ) (l : Limit) (stop : Stop) → LeadsOn op first schedule now (worker ∷ rest) → is_empty now.machine.book.ready ≡ false
-      → IsStopped op now.machine worker stop → stop ≡ stop_of l → limit_of_scheduled op first schedule ≡ Some l
-  leads_to_stop first now schedule rest worker l stop h e s is =
+      → (stop ≡ stops.NoMemory) ⊎ IsStopped op now.machine worker stop → stop ≡ stop_of l → limit_of_scheduled op first schedule ≡ Some l
+  leads_to_stop first now schedule rest worker l stop h e (inl none) is = absurd (not_for_memory l (sym is ∙ none))
+  leads_to_stop first now schedule rest worker l stop h e (inr s) is =
       let passed : limit_in op now.machine worker ≡ Some l = stop_cause l (limit_in op now.machine worker) (subst (λ (x : Stop). IsCause x (limit_in op now.machine worker)) is s.cause) in
       h.limit ∙ one_limited now worker rest e ∙ ap (λ (o : Option Limit). or_later o (limit_of_scheduled op (then_turned now worker (turn_at op (place_of now.machine worker) worker)) rest)) passed
 
@@ -89,7 +87,3 @@ pub below_at : (schedule : List ℕ) (workers place d : ℕ) → AllBelow schedu
 below_at [] workers place d h l = absurd (omega arith)
 below_at (x ∷ xs) workers zero d h l = h.0
 below_at (x ∷ xs) workers (suc place) d h l = below_at xs workers place d h.1 (omega arith)
-
-pub not_for_memory : (l : Limit) → stop_of l ≡ stops.NoMemory → ⊥
-not_for_memory limit.Spent e = absurd (cc)
-not_for_memory limit.Kept e = absurd (cc)

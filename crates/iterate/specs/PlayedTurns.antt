@@ -92,6 +92,12 @@ abbrev pub TurnAnswers : Operator → (before after : Machine) → (worker : ℕ
 TurnAnswers op before after worker (Ok event) = IsTurn op before after worker (event_of event)
 TurnAnswers op before after worker (Err stop) = IsStopped op before worker stop
 
+-- the turn, which the trace has then
+pub record IsTracedTurn (op : Operator) (before after : Run) (worker : ℕ) : Type 0 where
+  pub event : Event
+  pub turn_is : IsTurn op before.machine after.machine worker event
+  pub trace_is : after.trace ≡ then_turn before.trace worker event
+
 -- ---- runs
 
 -- worker 0 alone has emptied the ready set, by calls with numbers of 64 bits and commits that passed no limit
