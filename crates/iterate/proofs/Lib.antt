@@ -1,3 +1,6 @@
 pub mod Logs
 pub mod Standing
 pub mod Visiting
+pub mod SoleTurns
+pub mod SessionLists
+pub mod Drains

@@ -4,3 +4,6 @@ pub mod Needs
 pub mod SharedTurns
 pub mod Places
 pub mod Turns
+pub mod EventViews
+pub mod Plays
+pub mod PlayedTurns

@@ -1,6 +1,7 @@
-ghost use Rattle.std.specs.Prelude.{◌≡◌, [], None, false};
+ghost use Rattle.std.specs.Prelude.{◌≡◌, [], None, false, length};
 ghost use Rattle.commit_book.specs.SerialRuns.{operator_of};
 ghost use Rattle.iterate.specs.Places.{IsFit};
+ghost use Rattle.iterate.specs.PlayedTurns.{with_left_off};
 ghost use Rattle.iterate.specs.SessionViews.{view_of, begun_view, is_idle_view};
 ghost use Rattle.iterate.specs.Turns.{HasTurned};
 
@@ -83,6 +84,18 @@ impl<O: Operator> Session<O> {
             Phase::Idle => true,
             _ => false,
         }
+    }
+
+    /// The iteration, if it isn't over, has to take back its calls, whose number is the answer.
+    pub(crate) fn leave_off(&mut self) -> usize
+        requires { (op : O) → (view_of (O.rest op) self.old).opened ≡ None }
+        ensures view { (op : O) → view_of (O.rest op) self.new ≡ record (view_of (O.rest op) self.old) { at = with_left_off (view_of (O.rest op) self.old).at } }
+        ensures count { (op : O) → result ≡ length (view_of (O.rest op) self.old).at.outcome.steps }
+    {
+        if !self.is_idle() {
+            self.phase = Phase::Undoing;
+        }
+        self.log.len()
     }
 
     /// One turn, which never waits: where it needs a room that another caller holds, it is `Busy`.
