@@ -1,12 +1,12 @@
 //! The diamond of four nodes with two workers that take turns, each turn worked by hand.
 
-use crate::networks::{diamond, gates_and_book};
+use crate::networks::{add_turn, diamond, new_rooms};
 use flow_graph::{EXCESS, FLOW, FlowShard, GAIN, HEIGHT, RELABEL, SEND};
 use gate_core::ScanScreen;
 use gx_base::{Call, NoMemory};
 use iterate::{Event, Played, Turn, play};
 use preflow_push::Discharge;
-use rooms::{Value, VecRooms};
+use rooms::Value;
 use std::alloc::Global;
 use std::test::Fail;
 
@@ -143,9 +143,9 @@ fn played(alloc: Global, turns: u32) -> Result<Option<Played<FlowShard, ScanScre
     let op = Discharge::new(alloc, &net)?;
     let mut schedule = Vec::new(alloc);
     for turn in 0..turns {
-        schedule.push(turn % 2)?;
+        add_turn(&mut schedule, 2, turn % 2)?;
     }
-    let rooms = VecRooms::new(alloc, gates_and_book(alloc, &net)?);
+    let rooms = new_rooms(alloc, &net)?;
     Ok(play(alloc, rooms, &op, 2, &schedule).ok())
 }
 

@@ -1,8 +1,9 @@
 //! Runs by schedules beside the plain machine, turn by turn, and then the order that came out beside the reference runner.
 
-ghost use Rattle.std.specs.Prelude.{◌<◌};
+ghost use Rattle.std.specs.Prelude.{◌≤◌, IfOk};
+ghost use Rattle.speculation.specs.ScheduledRuns.{AllBelow};
 
-use crate::networks::{Draws, drawn_network, gates_and_book, plain_start};
+use crate::networks::{Draws, add_turn, drawn_network, new_rooms, plain_start};
 use crate::plain_machine::{PlainBook, PlainEvent, PlainHold, PlainWorker};
 use crate::plain_rooms::{LiveCall, PlainRoom};
 use commit_book::{BodyLog, Commit, Operator, Worklist, commit_item};
@@ -11,7 +12,7 @@ use gate_core::{Gate, ScanScreen};
 use gx_base::{Entry, NoMemory};
 use iterate::{Event, Turn, play};
 use preflow_push::{Discharge, Network, start};
-use rooms::{Value, VecRooms};
+use rooms::Value;
 use std::alloc::Global;
 use std::test::Fail;
 
@@ -244,11 +245,12 @@ fn drawn_schedule(
     turns: u64,
     draws: &mut Draws,
 ) -> Result<Vec<u32>, NoMemory>
-    requires { 0 < workers }
+    requires { 1 ≤ workers }
+    ensures { IfOk result (λ schedule. AllBelow schedule.items workers) }
 {
     let mut schedule = Vec::new(alloc);
     for _ in 0..turns {
-        schedule.push(draws.below(workers as u64) as u32)?;
+        add_turn(&mut schedule, workers, draws.below(workers as u64) as u32)?;
     }
     Ok(schedule)
 }
@@ -259,7 +261,10 @@ fn run(
     workers: u32,
     schedule: &[u32],
     counts: &mut Counts,
-) -> Result<(), NoMemory> {
+) -> Result<(), NoMemory>
+    requires workers { 1 ≤ workers }
+    requires schedule { AllBelow schedule.now workers }
+{
     let op = Discharge::new(alloc, net)?;
     let mut plain = PlainRun::new(alloc, net, workers)?;
     plain.follow(alloc, &op, schedule)?;
@@ -267,7 +272,7 @@ fn run(
     for turn in &plain.turns {
         counts.note(turn.event);
     }
-    let rooms = VecRooms::new(alloc, gates_and_book(alloc, net)?);
+    let rooms = new_rooms(alloc, net)?;
     let same = match play(alloc, rooms, &op, workers, schedule) {
         Ok(played) => {
             let traced = are_same(&played.trace, &plain.turns);
