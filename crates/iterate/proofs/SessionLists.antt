@@ -1,7 +1,7 @@
 -- Lists of sessions, of which one takes a turn.
 use Rattle.std.specs.Prelude.{◌≡◌, ◌≢◌, ℕ, zero, suc, ◌<◌, Bool, true, false, ◌==◌, if◌then◌else◌, Option, Some, None, List, [], ◌∷◌, length, slice_get, slice_set, refl}
-use Rattle.std.proofs.Common.{sym, ◌∙◌, ap, subst, get_or, arith}
-use Rattle.std.proofs.lemmas.Option.{same_Some, slice_get_read, slice_get_within}
+use Rattle.std.proofs.Common.{sym, ◌∙◌, ap, subst, arith}
+use Rattle.std.proofs.lemmas.Option.{same_Some}
 use Rattle.gx_base.specs.Plans.{Operator}
 use Rattle.gx_base.specs.Replays.{put}
 use Rattle.speculation.specs.Sessions.{Session}
@@ -26,9 +26,6 @@ first_there [] h = absurd (omega arith)
 first_there (x ∷ xs) h = (x, refl)
 
 module _ {O St : Type 0} (rest : Rests St) where
-  pub read : (xs : List (CodeSession O St)) (place : ℕ) (x : CodeSession O St) → place < length xs → x ≡ get_or xs place x → slice_get xs place ≡ Some x
-  read xs place x h e = slice_get_read xs (length xs) place x refl h e
-
   pub here : (xs : List (CodeSession O St)) (place : ℕ) (x : CodeSession O St) → slice_get xs place ≡ Some x → sessions_of rest xs place ≡ (view_of rest x).at
   here xs place x e = ap (session_in rest) e
 
@@ -57,3 +54,6 @@ module _ {O St : Type 0} (rest : Rests St) where
     -- no room is held
     pub all_free : (a : RoomsView (Value T S)) (xs : List (CodeSession O St)) → 0 < length xs → MayAllTurn op a rest xs → (room : ℕ) → is_held a room ≡ false
     all_free a xs h all = let x = first_there xs h in free_of op a 0 (view_of rest x.0) (all 0 x.0 x.1)
+
+    pub book_is : (a : RoomsView (Value T S)) (xs : List (CodeSession O St)) → 0 < length xs → MayAllTurn op a rest xs → a.book ≡ op.rooms
+    book_is a xs h all = let x = first_there xs h in let may = all 0 x.0 x.1 in may.fit.book

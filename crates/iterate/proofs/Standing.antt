@@ -17,7 +17,7 @@ use Rattle.rooms.specs.Values.{tells}
 use Rattle.rooms.specs.declared.values.Value.{Value}
 use Rattle.rooms.specs.declared.values.Value.TheVariants.{Object, Book}
 use Rattle.rooms.proofs.CallerLemmas.{put_same, put_other}
-use Rattle.iterate.specs.Places.{IsLogIn, IsLogOf, IsFit, no_gate, gate_of, book_of, IfTold, IsBookIn, StandsOn}
+use Rattle.iterate.specs.Places.{IsLogIn, IsLogOf, IsFit, IsFitIn, AreWithin, no_gate, gate_of, book_of, IfTold, IsBookIn, StandsOn}
 use Rattle.iterate.specs.SessionViews.{OpenCommit, SessionView}
 use Rattle.iterate.specs.Turns.{OthersStay, AreSameRooms}
 use Rattle.iterate.proofs.Logs.{log_shown, log_hidden, others_hidden}
@@ -76,6 +76,7 @@ module _ {T S : Type 0} where
       pub ordered : b.ordered ≡ a.ordered
       pub acts_for : b.acts_for ≡ a.acts_for
       pub telling : is_some (b.told a.book) ≡ is_some (a.told a.book)
+      pub ordered_told : IfTold (a.told a.book) (λ value. (book_of value).ordered ≡ a.ordered) → IfTold (b.told a.book) (λ value. (book_of value).ordered ≡ a.ordered)
       pub rooms : (room : ℕ) → room < a.book → RoomKept room ⊎ GateLeft room
       pub beyond : (room : ℕ) → a.book ≤ room → q.gates room ≡ p.gates room
 
@@ -120,6 +121,24 @@ module _ {T S : Type 0} where
 
       pub told_fits : ((room : ℕ) → room < a.book → IfTold (a.told room) (λ value. IsLogOf room s (gate_of value).live)) → (room : ℕ) → room < b.book → IfTold (b.told room) (λ value. IsLogOf room t (gate_of value).live)
       told_fits l room below = let m : room < a.book = subst (λ n. room < n) h.book below in told_at room (l room m) (h.rooms room m)
+
+      ordered_after : IfTold (a.told a.book) (λ value. (book_of value).ordered ≡ a.ordered) → IfTold (b.told b.book) (λ value. (book_of value).ordered ≡ b.ordered)
+      ordered_after l =
+          subst (λ n. IfTold (b.told n) (λ value. (book_of value).ordered ≡ b.ordered)) (sym h.book)
+          (if_told (b.told a.book) (λ value. (book_of value).ordered ≡ a.ordered) (λ value. (book_of value).ordered ≡ b.ordered) (λ value e. e ∙ sym h.ordered) (h.ordered_told l))
+
+      -- the session is fit for its next turn
+      pub fits : (op : Operator) → IsFit op a s → AreWithin op.rooms t.at.outcome.steps → IsFitIn op b t t.opened → IsFit op b t
+      fits op fit within doing = record {
+        acts = ap (λ f. f t.worker) h.acts_for ∙ mine_after;
+        book = h.book ∙ fit.book;
+        ordered = h.ordered ∙ fit.ordered;
+        ordered_told = ordered_after fit.ordered_told;
+        live = live_fits fit.live;
+        live_told = told_fits fit.live_told;
+        within = within;
+        doing = doing;
+      }
 
       -- ---- the other workers
 
@@ -177,12 +196,12 @@ module _ {T S : Type 0} where
   book_in a None = new_book a.ordered []
   book_in a (Some value) = book_of value
 
-  base_book_in : RoomsView (Value T S) → Option OpenCommit → BookView
+  pub base_book_in : RoomsView (Value T S) → Option OpenCommit → BookView
   base_book_in a None = book_in a (a.told a.book)
   base_book_in a (Some made) = made.book
 
   -- the place of a session, where nothing is known of the rooms but what they tell
-  pub base_place : RoomsView (Value T S) → SessionView → Place
+  abbrev pub base_place : RoomsView (Value T S) → SessionView → Place
   base_place a s = record { gates = base_gates a; book = base_book_in a s.opened; session = s.at }
 
   module _ (op : Operator) (a : RoomsView (Value T S)) (s : SessionView) (fit : IsFit op a s) where
@@ -218,8 +237,17 @@ module _ {T S : Type 0} where
     book_ordered None h = refl
     book_ordered (Some value) h = h
 
+    pub base_gates_told : (room : ℕ) → room < a.book → IfTold (a.told room) (λ value. base_gates a room ≡ gate_of value)
+    base_gates_told room l = subst (λ (g : GateView). IfTold (a.told room) (λ value. g ≡ gate_of value)) (sym (base_below room l)) (base_told (a.told room) (a.live room))
+
+    pub base_no_others : (room : ℕ) → a.book ≤ room → base_gates a room ≡ no_gate
+    base_no_others room l = base_beyond room l
+
+    pub base_logs : (room : ℕ) → room < a.book → IsLogOf room s (base_gates a room).live
+    base_logs room l = subst (λ (g : GateView). IsLogOf room s g.live) (sym (base_below room l)) (base_log room (a.told room) (a.live room) (fit.live room l) (fit.live_told room l))
+
     pub base_stands : s.opened ≡ None → StandsOn a s (base_place a s)
-    unfolding base_place base_book_in
+    unfolding base_book_in
     base_stands none = record {
       session_is = refl;
       gates = λ room l. subst (λ (g : GateView). IfTold (a.told room) (λ value. g ≡ gate_of value)) (sym (base_below room l)) (base_told (a.told room) (a.live room));

@@ -41,15 +41,16 @@ module _ {T S : Type 0} where
     pub ordered : b.ordered ≡ a.ordered
     pub acts_for : b.acts_for ≡ a.acts_for
     pub telling : is_some (b.told a.book) ≡ is_some (a.told a.book)
+    pub ordered_told : IfTold (a.told a.book) (λ value. (book_of value).ordered ≡ a.ordered) → IfTold (b.told a.book) (λ value. (book_of value).ordered ≡ a.ordered)
     pub live : (room : ℕ) → room < a.book → b.live room ≡ a.live room
     pub told : (room : ℕ) → room < a.book → b.told room ≡ a.told room
 
   pub same_gates : (a : RoomsView (Value T S)) → SameGates a a
-  same_gates a = record { book = refl; ordered = refl; acts_for = refl; telling = refl; live = λ room l. refl; told = λ room l. refl }
+  same_gates a = record { book = refl; ordered = refl; acts_for = refl; telling = refl; ordered_told = λ l. l; live = λ room l. refl; told = λ room l. refl }
 
   -- entered, or not entered as it was lost
   pub entered_gates : (a : RoomsView (Value T S)) (room : ℕ) (seen : RoomView) → SameGates a (entered a room seen)
-  entered_gates a room seen = record { book = refl; ordered = refl; acts_for = refl; telling = refl; live = λ r l. refl; told = λ r l. refl }
+  entered_gates a room seen = record { book = refl; ordered = refl; acts_for = refl; telling = refl; ordered_told = λ l. l; live = λ r l. refl; told = λ r l. refl }
 
   pub lost_gates : (a b : RoomsView (Value T S)) (room : ℕ) → IsLost a b room → SameGates a b
   lost_gates a b room h = record {
@@ -57,6 +58,7 @@ module _ {T S : Type 0} where
     ordered = ap (λ (v : RoomsView (Value T S)). v.ordered) h.same;
     acts_for = ap (λ (v : RoomsView (Value T S)). v.acts_for) h.same;
     telling = ap (λ (v : RoomsView (Value T S)). is_some (v.told a.book)) h.same;
+    ordered_told = λ l. subst (λ (v : RoomsView (Value T S)). IfTold (v.told a.book) (λ value. (book_of value).ordered ≡ a.ordered)) (sym h.same) l;
     live = λ r l. ap (λ (v : RoomsView (Value T S)). v.live r) h.same;
     told = λ r l. ap (λ (v : RoomsView (Value T S)). v.told r) h.same;
   }
@@ -65,15 +67,25 @@ module _ {T S : Type 0} where
   telling_with None value = refl
   telling_with (Some old) value = refl
 
-  pub book_gates : (a : RoomsView (Value T S)) (b : BookView) → SameGates a (left tells a a.book (Book b))
-  book_gates a b = record {
+  pub book_gates : (a : RoomsView (Value T S)) (b : BookView) → b.ordered ≡ a.ordered → SameGates a (left tells a a.book (Book b))
+  book_gates a b o = record {
     book = refl;
     ordered = refl;
     acts_for = refl;
     telling = ap (λ (o : Option (Value T S)). is_some o) (put_same a.told a.book (told_with (a.told a.book) (Book b))) ∙ telling_with (a.told a.book) (Book b);
+    ordered_told = λ l. subst (λ (x : Option (Value T S)). IfTold x (λ value. (book_of value).ordered ≡ a.ordered)) (sym (put_same a.told a.book (told_with (a.told a.book) (Book b)))) (told_book_itself (a.told a.book) b (λ x. x.ordered ≡ a.ordered) o);
     live = λ room l. put_other a.live a.book _ room (other_than_book a.book room l);
     told = λ room l. put_other a.told a.book _ room (other_than_book a.book room l);
   }
+
+  abbrev pub OrderedTold : ℕ → Bool → (ℕ → Option (Value T S)) → Type 0
+  OrderedTold book ordered told = IfTold (told book) (λ value. (book_of value).ordered ≡ ordered)
+
+  -- what is told of the book's order, under other names of the room and the order
+  pub carried : (x y : ℕ) (o u : Bool) (f g : ℕ → Option (Value T S)) → y ≡ x → u ≡ o → (OrderedTold y u f → OrderedTold y u g) → OrderedTold x o f → OrderedTold x o g
+  carried x y o u f g e d h l =
+      let m : OrderedTold y u f = subst (λ n. OrderedTold n u f) (sym e) (subst (λ w. OrderedTold x w f) (sym d) l) in
+      subst (λ w. OrderedTold x w g) d (subst (λ n. OrderedTold n u g) e (h m))
 
   pub then_same : (a b c : RoomsView (Value T S)) → SameGates a b → SameGates b c → SameGates a c
   then_same a b c h k =
@@ -83,6 +95,7 @@ module _ {T S : Type 0} where
         ordered = k.ordered ∙ h.ordered;
         acts_for = k.acts_for ∙ h.acts_for;
         telling = subst (λ n. is_some (c.told n) ≡ is_some (b.told n)) h.book k.telling ∙ h.telling;
+        ordered_told = λ l. carried a.book b.book a.ordered b.ordered b.told c.told h.book h.ordered k.ordered_told (h.ordered_told l);
         live = λ room l. k.live room (subst (λ n. room < n) (sym h.book) l) ∙ h.live room l;
         told = λ room l. k.told room (subst (λ n. room < n) (sym h.book) l) ∙ h.told room l;
       }
@@ -96,6 +109,7 @@ module _ {T S : Type 0} where
       ordered = h.ordered;
       acts_for = h.acts_for;
       telling = h.telling;
+      ordered_told = h.ordered_told;
       rooms = λ room l. inl (record { live = h.live room l; told = h.told room l; gate = ap (λ f. f room) e; log = log room });
       beyond = λ room l. ap (λ f. f room) e;
     }
@@ -148,12 +162,23 @@ module _ {T S : Type 0} where
           subst (λ n. is_some (b.told n) ≡ is_some (y.told n)) y_book after.telling ∙ ap (λ (o : Option (Value T S)). is_some o) (field_of (λ v. v.told a.book) ∙ put_other x.told room _ a.book (other_than_room room a.book below))
           ∙ before.telling
 
+      y_ordered : y.ordered ≡ a.ordered
+      y_ordered = field_of (λ v. v.ordered) ∙ before.ordered
+
+      ordered_told : OrderedTold a.book a.ordered a.told → OrderedTold a.book a.ordered b.told
+      ordered_told l =
+          let at_x : OrderedTold a.book a.ordered x.told = before.ordered_told l in
+          let at_y : OrderedTold a.book a.ordered y.told =
+          subst (λ (o : Option (Value T S)). IfTold o (λ value. (book_of value).ordered ≡ a.ordered)) (sym (field_of (λ v. v.told a.book) ∙ put_other x.told room _ a.book (other_than_room room a.book below))) at_x in
+          carried a.book y.book a.ordered y.ordered y.told b.told y_book y_ordered after.ordered_told at_y
+
       pub one_left : AreLeft a b s t p q
       one_left = record {
         book = after.book ∙ y_book;
-        ordered = after.ordered ∙ field_of (λ v. v.ordered) ∙ before.ordered;
+        ordered = after.ordered ∙ y_ordered;
         acts_for = after.acts_for ∙ field_of (λ v. v.acts_for) ∙ before.acts_for;
         telling = telling;
+        ordered_told = ordered_told;
         rooms = λ other l. at_room other l (room == other) refl;
         beyond = λ other l. ap (λ f. f other) q_has ∙ put_other p.gates room now other (other_than_room room other (omega arith));
       }

@@ -11,12 +11,12 @@ use Rattle.gx_base.specs.Replays.{no_state, part}
 use Rattle.gate_core.specs.Entries.{Each, mades_of, entries_of}
 use Rattle.gate_core.specs.Views.{GateView}
 use Rattle.commit_book.specs.BookViews.{BookView, new_book}
-use Rattle.speculation.specs.Sessions.{Session, Phase, Idle, Running, Finished, Undoing}
+use Rattle.speculation.specs.Sessions.{Phase, Idle, Running, Finished, Undoing}
 use Rattle.speculation.specs.Machines.{Place}
 use Rattle.rooms.specs.RoomsViews.{RoomsView, is_held, commits_entered}
 use Rattle.rooms.specs.declared.values.Value.{Value}
 use Rattle.rooms.specs.declared.values.Value.TheVariants.{Object, Book}
-use Rattle.iterate.specs.RoomLists.{is_among, steps_in}
+use Rattle.iterate.specs.RoomLists.{is_among, steps_in, AreRising, AreBelow}
 use Rattle.iterate.specs.SessionViews.{OpenCommit, SessionView}
 
 -- ---- values of rooms
@@ -53,11 +53,16 @@ abbrev pub AreWithin : ℕ → List Step → Type 0
 AreWithin rooms [] = ⊤
 AreWithin rooms (step ∷ steps) = (step.room < rooms) × AreWithin rooms steps
 
+-- the room of a call that was asked is one of so many
+abbrev pub IsAskedWithin : ℕ → Option ℕ → Type 0
+IsAskedWithin rooms None = ⊤
+IsAskedWithin rooms (Some room) = room < rooms
+
 -- a running session has come so far on its item, by the replies of its log; a finished one has come to the end; an idle one has no log
-abbrev pub IsBody : Operator → Session → Phase → Type 0
-IsBody op s Idle = s.outcome.steps ≡ []
-IsBody op s (Running plan) = RunsTo (op.plan s.item) s.outcome.steps s.outcome.pushes plan
-IsBody op s Finished = RunsTo (op.plan s.item) s.outcome.steps s.outcome.pushes Done
+abbrev pub IsBody : Operator → SessionView → Phase → Type 0
+IsBody op s Idle = s.at.outcome.steps ≡ []
+IsBody op s (Running plan) = RunsTo (op.plan s.at.item) s.at.outcome.steps s.at.outcome.pushes plan × IsAskedWithin op.rooms s.asked
+IsBody op s Finished = RunsTo (op.plan s.at.item) s.at.outcome.steps s.at.outcome.pushes Done
 IsBody op s Undoing = ⊤
 
 -- the commit is the last one of the book, and is that of a whole run on the session's item
@@ -67,12 +72,15 @@ pub record IsCommitOf (op : Operator) (session : SessionView) (made : OpenCommit
   pub runs : RunsTo (op.plan session.at.item) steps session.at.outcome.pushes Done
   pub last : made.book.commits ≡ earlier ++ record { worker = session.worker; iter = session.at.iter; item = session.at.item; outcome = record { steps = steps; pushes = session.at.outcome.pushes; withdrawn = [] } } ∷ []
   pub number : made.number ≡ length earlier
-  -- the log is the part of these steps in the rooms that are left
+  -- the rooms that are left stand by rising number
+  pub rising : AreRising made.left
+  pub below : AreBelow op.rooms made.left
+  -- the log is the part of these steps in them
   pub log : session.at.outcome.steps ≡ steps_in made.left steps
 
 -- no room is held, and the body is where the log says
 abbrev pub IsFitIn : {V : Type 0} → Operator → RoomsView V → SessionView → Option OpenCommit → Type 0
-IsFitIn op rooms session None = ((room : ℕ) → is_held rooms room ≡ false) × IsBody op session.at session.at.phase
+IsFitIn op rooms session None = ((room : ℕ) → is_held rooms room ≡ false) × IsBody op session session.at.phase
 -- or the book is held, which has the commit, and no room that is left was released under its number
 IsFitIn op rooms session (Some made) =
     ((room : ℕ) → is_held rooms room ≡ (room == rooms.book)) × IsCommitOf op session made × (made.book.ordered ≡ rooms.ordered)

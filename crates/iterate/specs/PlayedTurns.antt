@@ -4,12 +4,12 @@ use Rattle.gate_core.specs.Views.{IsLawfulGate}
 use Rattle.commit_book.specs.LawfulBooks.{IsLawfulBook}
 use Rattle.gx_base.specs.Meanings.{IsCall}
 use Rattle.gx_base.specs.Plans.{Operator}
-use Rattle.speculation.specs.Events.{Event}
+use Rattle.speculation.specs.Events.{Event, Turn, then_turn}
 use Rattle.speculation.specs.Events as event
-use Rattle.speculation.specs.Limits.{limit_in, limit_of_alone}
+use Rattle.speculation.specs.Limits.{limit_in, limit_of_alone, limit_of_played}
 use Rattle.speculation.specs.Machines.{Machine, place_of, turn_at, turn}
-use Rattle.speculation.specs.Premises.{AsksCall, AloneAsk}
-use Rattle.speculation.specs.ScheduledRuns.{is_empty, Run, alone}
+use Rattle.speculation.specs.Premises.{AsksCall, AloneAsk, AsksCalls}
+use Rattle.speculation.specs.ScheduledRuns.{is_empty, Run, alone, played}
 use Rattle.speculation.specs.Sessions.{Session, Phase, Idle, Running, Finished, Undoing}
 use Rattle.rooms.specs.RoomsViews.{RoomsView}
 use Rattle.rooms.specs.declared.values.Value.{Value}
@@ -92,6 +92,12 @@ abbrev pub TurnAnswers : Operator → (before after : Machine) → (worker : ℕ
 TurnAnswers op before after worker (Ok event) = IsTurn op before after worker (event_of event)
 TurnAnswers op before after worker (Err stop) = IsStopped op before worker stop
 
+-- the turn, which the trace has then
+pub record IsTracedTurn (op : Operator) (before after : Run) (worker : ℕ) : Type 0 where
+  pub event : Event
+  pub turn_is : IsTurn op before.machine after.machine worker event
+  pub trace_is : after.trace ≡ then_turn before.trace worker event
+
 -- ---- runs
 
 -- worker 0 alone has emptied the ready set, by calls with numbers of 64 bits and commits that passed no limit
@@ -102,6 +108,14 @@ pub record IsLoneRun (op : Operator) (before after : Machine) : Type 0 where
   pub unlimited : limit_of_alone op before turns ≡ None
   pub asks : AloneAsk op before turns
 
+-- the turns are those of the scheduled run, of which no commit passed a limit; nothing is ready after it
+pub record IsPlayedRun (op : Operator) (before : Machine) (workers : ℕ) (schedule : List ℕ) (last : Run) : Type 0 where
+  pub turns : ℕ
+  pub unlimited : limit_of_played op before workers schedule turns ≡ None
+  pub ends : is_empty last.machine.book.ready ≡ true
+  pub run_is : last ≡ played op before workers schedule turns
+  pub asks : AsksCalls op before workers schedule turns
+
 -- an iteration that isn't over undoes
 abbrev pub left_off : Phase → Phase
 left_off Idle = Idle
@@ -111,3 +125,15 @@ left_off Undoing = Undoing
 
 abbrev pub with_left_off : Session → Session
 with_left_off s = record s { phase = left_off s.phase }
+
+-- the turns with one more, but for one that was idle
+abbrev pub with_undo : List Turn → ℕ → Event → List Turn
+with_undo turns worker (event.Take item) = then_turn turns worker (event.Take item)
+with_undo turns worker event.Idle = turns
+with_undo turns worker (event.Call room call reply) = then_turn turns worker (event.Call room call reply)
+with_undo turns worker (event.Conflict room held call would) = then_turn turns worker (event.Conflict room held call would)
+with_undo turns worker (event.Commit number) = then_turn turns worker (event.Commit number)
+with_undo turns worker event.Wait = then_turn turns worker event.Wait
+with_undo turns worker event.Drop = then_turn turns worker event.Drop
+with_undo turns worker (event.Undo room call) = then_turn turns worker (event.Undo room call)
+with_undo turns worker event.Busy = then_turn turns worker event.Busy

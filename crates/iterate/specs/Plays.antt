@@ -1,5 +1,5 @@
 -- Whole runs: what `play` asks of its rooms, and what it answers.
-use Rattle.std.specs.Prelude.{◌≡◌, ℕ, ◌+◌, ◌<◌, ◌^◌, true, Option, Some, None, List, [], Result, Err}
+use Rattle.std.specs.Prelude.{◌≡◌, ℕ, ◌+◌, ◌<◌, ◌≤◌, ◌^◌, true, Option, Some, None, List, [], Result, Err}
 use Rattle.gate_core.specs.Views.{GateView}
 use Rattle.gx_base.specs.Plans.{Operator}
 use Rattle.commit_book.specs.BookViews.{BookView, new_book}
@@ -65,6 +65,7 @@ pub record IsPlayed {T S : Type 0} (op : Operator) (begun : Machine) (workers : 
   pub gates : (room : ℕ) → room < op.rooms → values room ≡ Some (Object ((played op begun workers schedule turns).machine.gates room))
   pub book : values op.rooms ≡ Some (Book (played op begun workers schedule turns).machine.book)
   pub no_more : (room : ℕ) → op.rooms < room → values room ≡ None
+  pub no_others : (room : ℕ) → op.rooms ≤ room → (played op begun workers schedule turns).machine.gates room ≡ no_gate
   pub serial : IsSerialInTheEnd op begun (played op begun workers schedule turns).machine
 
 abbrev pub stop_of : Limit → Stop

@@ -22,7 +22,7 @@ use Rattle.iterate.specs.declared.events.Event.TheVariants as code
 use Rattle.iterate.specs.declared.events.Stop.{Stop}
 use Rattle.iterate.specs.declared.events.Stop.TheVariants as stops
 use Rattle.iterate.specs.Needs.{gone_on, needs}
-use Rattle.iterate.specs.Places.{gate_of, IfTold, StandsOn}
+use Rattle.iterate.specs.Places.{gate_of, IfTold, IsFit, StandsOn}
 use Rattle.iterate.specs.SessionViews.{OpenCommit, SessionView}
 use Rattle.iterate.specs.SharedTurns.{Shared, shared_turn, stopped_at}
 
@@ -146,3 +146,8 @@ pub record HasTurned {T S : Type 0} (op : Operator) (rooms_before rooms_after : 
   pub answers : Answers op rooms_before.book before after p q lost result
   pub same_rooms : AreSameRooms rooms_before rooms_after before.worker
   pub same_worker : after.worker ≡ before.worker
+
+-- a turn after which the session is fit for the next one
+pub record TakesTurn {T S : Type 0} (op : Operator) (rooms_before rooms_after : RoomsView (Value T S)) (before after : SessionView) (result : Result CodeEvent Stop) : Type 0 where
+  pub has_turned : HasTurned op rooms_before rooms_after before after result
+  pub is_fit : IsFit op rooms_after after

@@ -4,16 +4,36 @@ ghost use Rattle.gx_base.specs.Replays.{put};
 ghost use Rattle.speculation.specs.ScheduledRuns.{drain as drained, drain_step as step_drained, drain_worker as worker_drained};
 ghost use Rattle.rooms.specs.Values.{tells};
 ghost use Rattle.rooms.specs.Visits.{view_of as rooms_view};
-ghost use Rattle.iterate.specs.PlayedTurns.{sessions_of, run_of, MayAllTurn, left_off, with_left_off};
+ghost use Rattle.iterate.specs.PlayedTurns.{sessions_of, run_of, MayAllTurn, left_off, with_left_off, with_undo};
+ghost use Rattle.iterate.specs.EventViews.{turns_of};
+ghost use Rattle.iterate.specs.Turns.{event_of};
 ghost use Rattle.iterate.specs.declared.events.Stop.TheVariants as stops;
 
 use crate::events::{Event, Stop, Turn};
 use crate::session::Session;
-use crate::turning::{note, take_turn};
+use crate::sole_turns::{note, take_turn};
 use commit_book::Operator;
 use gate_core::Screen;
 use gx_base::SeqType;
 use rooms::{Value, VecRooms};
+
+// The trace with one more turn, but for one that was idle.
+fn note_undo(trace: &mut Vec<Turn>, worker: u32, event: Event) -> Result<(), Stop>
+    ensures ok { OnOk result (turns_of trace.new.items ≡ with_undo (turns_of trace.old.items) worker (event_of event)) }
+    ensures err { IfErr result (λ stop. stop ≡ stops.NoMemory) }
+{
+    match event {
+        Event::Idle => Ok(()),
+        Event::Take { .. }
+        | Event::Call { .. }
+        | Event::Conflict { .. }
+        | Event::Undo { .. }
+        | Event::Commit { .. }
+        | Event::Wait
+        | Event::Drop
+        | Event::Busy => note(trace, worker, event),
+    }
+}
 
 // An iteration that has left off takes back its last call. With the only one, or where there is none left, it is over.
 fn drain_step<O: Operator, T: SeqType, S: Screen<T>>(
@@ -35,11 +55,8 @@ fn drain_step<O: Operator, T: SeqType, S: Screen<T>>(
     if sessions[worker as usize].is_idle() {
         return Ok(());
     }
-    match take_turn(rooms, op, sessions, worker) {
-        Ok(Event::Idle) => Ok(()),
-        Ok(event) => note(trace, worker, event),
-        Err(stop) => Err(stop),
-    }
+    let event = take_turn(rooms, op, sessions, worker)?;
+    note_undo(trace, worker, event)
 }
 
 // The worker's iteration, if it isn't over, has to take back its calls, whose number is the answer.
@@ -74,7 +91,7 @@ fn drain_worker<O: Operator, T: SeqType, S: Screen<T>>(
     ensures fit { MayAllTurn (operator_of O.Operator op.now) (rooms_view tells rooms.new) (O.rest op.now) sessions.new }
 {
     let count = leave_off(rooms, op, sessions, worker);
-    for _ in 0..count {
+    for _done in 0..count {
         drain_step(rooms, op, sessions, worker, trace)?;
     }
     drain_step(rooms, op, sessions, worker, trace)

@@ -13,7 +13,7 @@ mod releases;
 mod scheduling;
 mod session;
 mod taking;
-mod turning;
+mod sole_turns;
 mod undoing;
 
 pub use events::{Event, Stop, Turn};

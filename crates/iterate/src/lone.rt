@@ -8,7 +8,7 @@ ghost use Rattle.iterate.specs.Plays.{stop_of};
 
 use crate::events::Stop;
 use crate::session::Session;
-use crate::turning::{nothing_is_ready, take_turn};
+use crate::sole_turns::{nothing_is_ready, take_turn};
 use commit_book::Operator;
 use gate_core::Screen;
 use gx_base::SeqType;
@@ -27,7 +27,7 @@ pub fn run_alone<O: Operator, T: SeqType, S: Screen<T>>(
     ensures limited { (limit : Limit) → result ≡ Err (stop_of limit) → (turns : ℕ) × (limit_of_alone (operator_of O.Operator op.now) (machine_of (rooms_view tells rooms.old) (sessions_of (O.rest op.now) sessions.old)) turns ≡ Some limit) }
     ensures fit { MayAllTurn (operator_of O.Operator op.now) (rooms_view tells rooms.new) (O.rest op.now) sessions.new }
 {
-    for _ in 0..u64::MAX {
+    for _turn in 0..u64::MAX {
         if nothing_is_ready(rooms) {
             return Ok(());
         }

@@ -1,13 +1,13 @@
-ghost use Rattle.std.specs.Prelude.{◌≡◌, ◌⊎◌, ◌≤◌, ℕ, false, length, slice_get, Some, IfOk, IfErr, Err};
+ghost use Rattle.std.specs.Prelude.{◌≡◌, ◌⊎◌, ◌<◌, ◌≤◌, ℕ, [], false, length, slice_get, Some, IfOk, IfErr, OnOk, Err};
 ghost use Rattle.commit_book.specs.SerialRuns.{operator_of};
 ghost use Rattle.speculation.specs.Limits.{Limit};
 ghost use Rattle.speculation.specs.ScheduledRuns.{AllBelow};
 ghost use Rattle.rooms.specs.RoomsViews.{is_held};
 ghost use Rattle.rooms.specs.Values.{tells};
-ghost use Rattle.rooms.specs.Visits.{view_of};
+ghost use Rattle.rooms.specs.Visits.{AreTold, view_of};
 ghost use Rattle.rooms.specs.declared.values.Value.{Value};
 ghost use Rattle.iterate.specs.EventViews.{turns_of};
-ghost use Rattle.iterate.specs.PlayedTurns.{AreBegun, IsLawfulValue};
+ghost use Rattle.iterate.specs.PlayedTurns.{machine_of, sessions_of, run_of, AreBegun, IsLawfulValue, IsPlayedRun, MayAllTurn};
 ghost use Rattle.iterate.specs.Plays.{AreNewFor, IsPlayed, PassesFirst, begun_machine, stop_of};
 ghost use Rattle.iterate.specs.declared.events.Stop.TheVariants as stops;
 
@@ -45,8 +45,9 @@ fn begin_sessions<O: Operator>(
     let mut sessions = Vec::new(alloc);
     for worker in 0..workers {
         let session = Session::new(alloc, worker);
-        if sessions.push(session).is_err() {
-            return Err(Stop::NoMemory);
+        match sessions.push(session) {
+            Ok(()) => {}
+            Err(_) => return Err(Stop::NoMemory),
         }
     }
     Ok(sessions)
@@ -74,6 +75,34 @@ fn know_value<T: SeqType, S: Screen<T>>(value: &Value<T, S>)
     }
 }
 
+// A whole run of so many sessions.
+fn play_on<O: Operator, T: SeqType, S: Screen<T>>(
+    rooms: &mut VecRooms<Value<T, S>>,
+    op: &O,
+    sessions: &mut [Session<O>],
+    workers: u32,
+    schedule: &[u32],
+    trace: &mut Vec<Turn>,
+) -> Result<(), Stop>
+    requires unordered { O.is_ordered op.now ≡ false }
+    requires workers { workers ≡ length sessions.old }
+    requires some { 0 < length sessions.old }
+    requires schedule { AllBelow schedule.now (length sessions.old) }
+    requires trace { trace.old.items ≡ [] }
+    requires fit { MayAllTurn (operator_of O.Operator op.now) (view_of tells rooms.old) (O.rest op.now) sessions.old }
+    ensures run { OnOk result (IsPlayedRun (operator_of O.Operator op.now) (machine_of (view_of tells rooms.old) (sessions_of (O.rest op.now) sessions.old)) workers schedule.now (run_of (view_of tells rooms.new) (sessions_of (O.rest op.now) sessions.new) trace.new.items)) }
+    ensures stopped { (limit : Limit) → result ≡ Err (stop_of limit) → PassesFirst (operator_of O.Operator op.now) (machine_of (view_of tells rooms.old) (sessions_of (O.rest op.now) sessions.old)) workers schedule.now limit }
+    ensures free { OnOk result ((room : ℕ) → is_held (view_of tells rooms.new) room ≡ false) }
+    ensures told { OnOk result (AreTold tells (view_of tells rooms.new)) }
+    ensures book { OnOk result ((view_of tells rooms.new).book ≡ O.room_count op.now) }
+{
+    run_schedule(rooms, op, sessions, schedule, trace)?;
+    drain(rooms, op, sessions, workers, trace)?;
+    run_alone(rooms, op, sessions)?;
+    rooms.tell();
+    Ok(())
+}
+
 /// A whole run: turn k is that of the worker which the schedule has at k. Then each iteration that is left takes its calls
 /// back, by rising worker, and worker 0 goes on alone until no item is ready.
 pub fn play<O: Operator, T: SeqType, S: Screen<T>>(
@@ -94,16 +123,15 @@ pub fn play<O: Operator, T: SeqType, S: Screen<T>>(
 {
     rooms.tell();
     know_values(rooms.values());
-    runs_are_serial();
     let mut rooms = rooms;
     let mut sessions = begin_sessions(alloc, op, workers)?;
     let mut trace = Vec::new(alloc);
-    run_schedule(&mut rooms, op, &mut sessions, schedule, &mut trace)?;
-    drain(&mut rooms, op, &mut sessions, workers, &mut trace)?;
-    run_alone(&mut rooms, op, &mut sessions)?;
-    rooms.tell();
-    Ok(Played {
-        values: rooms.into_values(),
-        trace,
-    })
+    runs_are_serial();
+    match play_on(&mut rooms, op, &mut sessions, workers, schedule, &mut trace) {
+        Ok(()) => Ok(Played {
+            values: rooms.into_values(),
+            trace,
+        }),
+        Err(stop) => Err(stop),
+    }
 }

@@ -1,20 +1,41 @@
-ghost use Rattle.std.specs.Prelude.{◌≡◌, ◌<◌, ℕ, None, Some, Err, false, length, OnOk};
+ghost use Rattle.std.specs.Prelude.{◌≡◌, ◌⊎◌, ◌<◌, ℕ, None, Some, Err, false, length, IfErr, OnOk};
 ghost use Rattle.commit_book.specs.SerialRuns.{operator_of};
 ghost use Rattle.speculation.specs.Limits.{Limit, limit_of_scheduled};
 ghost use Rattle.speculation.specs.Premises.{ScheduledAsk};
 ghost use Rattle.speculation.specs.ScheduledRuns.{AllBelow, scheduled};
 ghost use Rattle.rooms.specs.Values.{tells};
 ghost use Rattle.rooms.specs.Visits.{view_of as rooms_view};
-ghost use Rattle.iterate.specs.PlayedTurns.{sessions_of, run_of, MayAllTurn};
+ghost use Rattle.iterate.specs.PlayedTurns.{machine_of, sessions_of, run_of, MayAllTurn, IsTracedTurn, IsStopped};
 ghost use Rattle.iterate.specs.Plays.{stop_of};
+ghost use Rattle.iterate.specs.declared.events.Stop.TheVariants as stops;
 
 use crate::events::{Stop, Turn};
 use crate::session::Session;
-use crate::turning::{note, nothing_is_ready, take_turn};
+use crate::sole_turns::{note, nothing_is_ready, take_turn};
 use commit_book::Operator;
 use gate_core::Screen;
 use gx_base::SeqType;
 use rooms::{Value, VecRooms};
+
+// One turn of a worker, which goes to the trace.
+fn traced_turn<O: Operator, T: SeqType, S: Screen<T>>(
+    rooms: &mut VecRooms<Value<T, S>>,
+    op: &O,
+    sessions: &mut [Session<O>],
+    worker: u32,
+    trace: &mut Vec<Turn>,
+) -> Result<(), Stop>
+    requires unordered { O.is_ordered op.now ≡ false }
+    requires worker { worker < length sessions.old }
+    requires fit { MayAllTurn (operator_of O.Operator op.now) (rooms_view tells rooms.old) (O.rest op.now) sessions.old }
+    ensures turned { OnOk result (IsTracedTurn (operator_of O.Operator op.now) (run_of (rooms_view tells rooms.old) (sessions_of (O.rest op.now) sessions.old) trace.old.items) (run_of (rooms_view tells rooms.new) (sessions_of (O.rest op.now) sessions.new) trace.new.items) worker) }
+    ensures stopped { IfErr result (λ stop. (stop ≡ stops.NoMemory) ⊎ IsStopped (operator_of O.Operator op.now) (machine_of (rooms_view tells rooms.old) (sessions_of (O.rest op.now) sessions.old)) worker stop) }
+    ensures fit { MayAllTurn (operator_of O.Operator op.now) (rooms_view tells rooms.new) (O.rest op.now) sessions.new }
+{
+    let event = take_turn(rooms, op, sessions, worker)?;
+    note(trace, worker, event)?;
+    Ok(())
+}
 
 /// The turns of a schedule, while an item is ready.
 pub fn run_schedule<O: Operator, T: SeqType, S: Screen<T>>(
@@ -38,8 +59,7 @@ pub fn run_schedule<O: Operator, T: SeqType, S: Screen<T>>(
         if nothing_is_ready(rooms) {
             return Ok(());
         }
-        let event = take_turn(rooms, op, sessions, *worker)?;
-        note(trace, *worker, event)?;
+        traced_turn(rooms, op, sessions, *worker, trace)?;
     }
     Ok(())
 }

@@ -12,7 +12,6 @@ use gate_core::Screen;
 use gx_base::{Call, Item, Reply, Room, SeqType, Step};
 use rooms::{Rooms, Value};
 use std::alloc::Global;
-use std::mem;
 
 /// What a session is at.
 #[derive(Drop)]
@@ -89,7 +88,7 @@ impl<O: Operator> Session<O> {
     /// The iteration, if it isn't over, has to take back its calls, whose number is the answer.
     pub(crate) fn leave_off(&mut self) -> usize
         requires { (op : O) → (view_of (O.rest op) self.old).opened ≡ None }
-        ensures view { (op : O) → view_of (O.rest op) self.new ≡ record (view_of (O.rest op) self.old) { at = with_left_off (view_of (O.rest op) self.old).at } }
+        ensures view { (op : O) → view_of (O.rest op) self.new ≡ record (view_of (O.rest op) self.old) { at = with_left_off (view_of (O.rest op) self.old).at; asked = None } }
         ensures count { (op : O) → result ≡ length (view_of (O.rest op) self.old).at.outcome.steps }
     {
         if !self.is_idle() {
@@ -112,10 +111,11 @@ impl<O: Operator> Session<O> {
     {
         match self.phase {
             Phase::Idle => self.take(rooms, op),
-            Phase::Running { .. } | Phase::Asking { .. } => self.go(rooms, op),
-            Phase::Finished => self.finish(rooms),
-            Phase::Committing { .. } => self.release_on(rooms),
-            Phase::Undoing => Ok(self.undo(rooms)),
+            Phase::Running { .. } => self.go(rooms, op),
+            Phase::Asking { .. } => self.go(rooms, op),
+            Phase::Finished => self.finish(rooms, op),
+            Phase::Committing { .. } => Ok(self.release_on(rooms, op)),
+            Phase::Undoing => Ok(self.undo(rooms, op)),
         }
     }
 }

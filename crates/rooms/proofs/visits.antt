@@ -1,3 +1,2 @@
-pub mod Leaving
 pub mod Vectors
 pub mod Visiting

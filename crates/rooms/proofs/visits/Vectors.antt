@@ -8,30 +8,22 @@ use Rattle.rooms.specs.Visits.{Move, Visits, everyone, ordered_in, first_view, a
 
 -- what no move changes
 record IsFixed {V : Type 0} (before after : RoomsView V) : Type 0 where
-  pub book : after.book ≡ before.book
-  pub ordered : after.ordered ≡ before.ordered
   pub acts_for : after.acts_for ≡ before.acts_for
   pub lost : after.lost ≡ before.lost
 
 module _ {V : Type 0} (tells : V → RoomView) where
   one_move : (was_left : Bool) (room : ℕ) (value : V) (view : RoomsView V) → IsFixed view (if was_left then left tells view room value else entered view room (tells value))
-  one_move true room value view = record { book = refl; ordered = refl; acts_for = refl; lost = refl }
-  one_move false room value view = record { book = refl; ordered = refl; acts_for = refl; lost = refl }
+  one_move true room value view = record { acts_for = refl; lost = refl }
+  one_move false room value view = record { acts_for = refl; lost = refl }
 
   all_moves : (moves : List (Move V)) (view : RoomsView V) → IsFixed view (after_moves tells moves view)
-  all_moves [] view = record { book = refl; ordered = refl; acts_for = refl; lost = refl }
+  all_moves [] view = record { acts_for = refl; lost = refl }
   all_moves (move ∷ moves) view =
       let one = one_move move.was_left move.room move.value (after_moves tells moves view) in
       let all = all_moves moves view in
-      record { book = one.book ∙ all.book; ordered = one.ordered ∙ all.ordered; acts_for = one.acts_for ∙ all.acts_for; lost = one.lost ∙ all.lost }
+      record { acts_for = one.acts_for ∙ all.acts_for; lost = one.lost ∙ all.lost }
 
   module _ (visits : Visits V) where
-    pub vector_book : (view_of tells visits).book ≡ length visits.values - 1
-    vector_book = (all_moves visits.moves (first_view tells visits.values)).book
-
-    pub vector_ordered : (view_of tells visits).ordered ≡ ordered_in tells (slice_get visits.values (length visits.values - 1))
-    vector_ordered = (all_moves visits.moves (first_view tells visits.values)).ordered
-
     pub vector_acts_for : (view_of tells visits).acts_for ≡ everyone
     vector_acts_for = (all_moves visits.moves (first_view tells visits.values)).acts_for
 

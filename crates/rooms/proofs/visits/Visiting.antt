@@ -68,8 +68,5 @@ module _ {V : Type 0} (tells : V → RoomView) (view : RoomsView V) (room : ℕ)
 released_book : {V : Type 0} (view : RoomsView V) (mark : ℕ) → released_with view view.book mark ≡ nowhere
 released_book view mark = ap (λ (b : Bool). if b then nowhere else (if is_release view mark then put view.released view.book true else view.released)) (same_number view.book)
 
-pub left_book : {V : Type 0} (tells : V → RoomView) (view : RoomsView V) (value : V) → left tells view view.book value ≡ record (with_value tells view view.book value) { held = put view.held view.book None; released = nowhere }
-left_book tells view value = λ i. record (with_value tells view view.book value) { held = put view.held view.book None; released = released_book view (tells value).mark i }
-
 pub visited_book : {V : Type 0} (tells : V → RoomView) (view : RoomsView V) (seen : RoomView) (value : V) → view.held view.book ≡ None → left tells (entered view view.book seen) view.book value ≡ record (with_value tells view view.book value) { released = nowhere }
 visited_book tells view seen value free = visited tells view view.book seen value free nowhere (released_book (entered view view.book seen) (tells value).mark)

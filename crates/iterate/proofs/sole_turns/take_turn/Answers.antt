@@ -9,7 +9,7 @@ use Rattle.iterate.specs.SessionViews.{view_of}
 use Rattle.iterate.specs.Turns.{AreSameRooms}
 use Rattle.iterate.proofs.SessionLists.{here, set_sessions, all_set}
 use Rattle.iterate.proofs.SoleTurns.{sole_turn, may_turn_on, other_may}
-use Rattle.iterate.proofs.turning.take_turn.Goals as goal
+use Rattle.iterate.proofs.sole_turns.take_turn.Goals as goal
 
 pub returns-clause-turned : goal.returns-clause-turned
 returns-clause-turned g c =

@@ -5,7 +5,7 @@ use Rattle.speculation.specs.ScheduledRuns.{is_empty}
 use Rattle.rooms.specs.Values.{tells}
 use Rattle.rooms.specs.Visits.{view_of as rooms_view}
 use Rattle.iterate.specs.Plays.{book_in}
-use Rattle.iterate.proofs.turning.nothing_is_ready.Goals as goal
+use Rattle.iterate.proofs.sole_turns.nothing_is_ready.Goals as goal
 
 pub returns-in-None : goal.returns-in-None
 unfolding with_items

@@ -1,6 +1,6 @@
 use Rattle.std.proofs.Common.{refl}
 use Rattle.gx_base.specs.Worklists.{with_items}
-use Rattle.iterate.proofs.turning.has_nothing_ready.Goals as goal
+use Rattle.iterate.proofs.sole_turns.has_nothing_ready.Goals as goal
 
 pub returns-in-Object : goal.returns-in-Object
 unfolding with_items

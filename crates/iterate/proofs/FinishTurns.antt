@@ -1,0 +1,213 @@
+-- The turns of a finished session.
+use Rattle.std.specs.Prelude.{◌≡◌, ◌≢◌, ◌⊎◌, ℕ, ◌<◌, ◌≤◌, Bool, true, false, not, ◌&&◌, ◌||◌, ◌==◌, if◌then◌else◌, Option, Some, None, List, [], ◌∷◌, ◌++◌, length, Result, Ok, Err, refl, ⊤}
+use Rattle.std.proofs.Common.{sym, ◌∙◌, ap, subst, inl, inr}
+use Rattle.gx_base.specs.declared.acts.Entry.{Entry}
+use Rattle.gx_base.specs.declared.items.Item.{Item}
+use Rattle.gx_base.specs.Plans.{Operator}
+use Rattle.gx_base.specs.RoomViews.{RoomView}
+use Rattle.gx_base.specs.Worklists.{has_item, is_least}
+use Rattle.gate_core.specs.Views.{GateView}
+use Rattle.commit_book.specs.declared.refusals.CommitRefuse.{CommitRefuse}
+use Rattle.commit_book.specs.declared.refusals.CommitRefuse.TheVariants.{NotReady, NotLeast, Spent, Kept, NoMemory}
+use Rattle.commit_book.specs.BookViews.{BookView, put_back, is_named, is_spent, is_past_journal}
+use Rattle.commit_book.specs.LawfulBooks.{or_else, only_if, not_least, least_before, refusal}
+use Rattle.speculation.specs.Events as event
+use Rattle.speculation.specs.Limits.{Limit, limit_at}
+use Rattle.speculation.specs.Limits as limit
+use Rattle.speculation.specs.Machines.{Place, Turned, let_go, given_up, committed, undo, turn_at}
+use Rattle.speculation.specs.Sessions.{Session, Finished, undoing, undone_to, has_no_step}
+use Rattle.speculation.proofs.Putting.{no_bool, same_number}
+use Rattle.speculation.proofs.Steps.{is_none}
+use Rattle.rooms.specs.RoomsViews.{RoomsView, entered, left as rooms_left}
+use Rattle.rooms.specs.HandedOut.{IsHandedOut, IsLost}
+use Rattle.rooms.specs.Values.{tells}
+use Rattle.rooms.specs.declared.values.Value.{Value}
+use Rattle.rooms.specs.declared.values.Value.TheVariants.{Book}
+use Rattle.iterate.specs.declared.events.Event.{Event as CodeEvent}
+use Rattle.iterate.specs.declared.events.Event.TheVariants as events
+use Rattle.iterate.specs.declared.events.Stop.{Stop}
+use Rattle.iterate.specs.declared.events.Stop.TheVariants as stops
+use Rattle.iterate.specs.declared.session.Phase.{Phase as CodePhase}
+use Rattle.iterate.specs.declared.session.Phase.TheVariants as code
+use Rattle.iterate.specs.Needs.{needs}
+use Rattle.iterate.specs.Places.{IsLogIn, IsLogOf, IsFit}
+use Rattle.iterate.specs.RoomLists.{is_among, rooms_of}
+use Rattle.iterate.specs.SessionViews.{Rests, Core, SessionView, view_in}
+use Rattle.iterate.specs.SharedTurns.{Shared, cut_at, cut_commit, begun_commit, stays}
+use Rattle.iterate.specs.Turns.{TakesTurn, Answers, IsAfter, IsCause, limit_on}
+use Rattle.iterate.specs.Visits.{BookWasVisited, MayAnswer}
+use Rattle.iterate.proofs.Standing.{base_place}
+use Rattle.iterate.proofs.Turning.{whole}
+use Rattle.iterate.proofs.BookTurns.{body_of, book_place, book_turn, book_visited, lost_turn}
+use Rattle.iterate.proofs.UndoTurns.{over, or_left, unless_true, where_true}
+
+-- ---- why a book refuses
+
+-- in a book that isn't ordered
+abbrev unordered_refusal : Bool → Bool → Bool → Option CommitRefuse
+unordered_refusal ready spent past = or_else (only_if (not ready) NotReady) (or_else (only_if spent Spent) (only_if past Kept))
+
+refuses : (b : BookView) (item : Item) (steps : ℕ) → b.ordered ≡ false → refusal b item steps ≡ unordered_refusal (has_item b.ready item) (is_spent b) (is_past_journal b steps)
+refuses b item steps e =
+    ap (λ (o : Bool). or_else (only_if (not (has_item b.ready item)) NotReady) (or_else (if o then not_least (least_before b.ready item) else None) (or_else (only_if (is_spent b) Spent) (only_if (is_past_journal b steps) Kept)))) e
+
+-- what is so where a book answers so
+abbrev pub Because : CommitRefuse → Bool → Bool → Bool → Type 0
+Because NotReady ready spent past = ready ≡ false
+Because (NotLeast least) ready spent past = ⊥
+Because Spent ready spent past = (ready ≡ true) × (spent ≡ true)
+Because Kept ready spent past = (ready ≡ true) × (spent ≡ false) × (past ≡ true)
+Because NoMemory ready spent past = ⊤
+
+because : (refuse : CommitRefuse) (ready spent past : Bool) → (unordered_refusal ready spent past ≡ Some refuse) ⊎ (refuse ≡ NoMemory) → Because refuse ready spent past
+because NotReady false spent past h = refl
+because NotReady true true past (inl e) = absurd (cc)
+because NotReady true false true (inl e) = absurd (cc)
+because NotReady true false false (inl e) = absurd (cc)
+because NotReady true spent past (inr e) = absurd (cc)
+because (NotLeast least) false spent past (inl e) = absurd (cc)
+because (NotLeast least) true true past (inl e) = absurd (cc)
+because (NotLeast least) true false true (inl e) = absurd (cc)
+because (NotLeast least) true false false (inl e) = absurd (cc)
+because (NotLeast least) ready spent past (inr e) = absurd (cc)
+because Spent false spent past (inl e) = absurd (cc)
+because Spent true true past (inl e) = (refl, refl)
+because Spent true false true (inl e) = absurd (cc)
+because Spent true false false (inl e) = absurd (cc)
+because Spent ready spent past (inr e) = absurd (cc)
+because Kept false spent past (inl e) = absurd (cc)
+because Kept true true past (inl e) = absurd (cc)
+because Kept true false true (inl e) = (refl, refl, refl)
+because Kept true false false (inl e) = absurd (cc)
+because Kept ready spent past (inr e) = absurd (cc)
+because NoMemory ready spent past h = tt
+
+pub cause_of : (b : BookView) (item : Item) (steps : ℕ) (refuse : CommitRefuse) → b.ordered ≡ false → (refusal b item steps ≡ Some refuse) ⊎ (refuse ≡ NoMemory) → Because refuse (has_item b.ready item) (is_spent b) (is_past_journal b steps)
+cause_of b item steps refuse o (inl e) = because refuse (has_item b.ready item) (is_spent b) (is_past_journal b steps) (inl (sym (refuses b item steps o) ∙ e))
+cause_of b item steps refuse o (inr e) = because refuse (has_item b.ready item) (is_spent b) (is_past_journal b steps) (inr e)
+
+-- nothing is in the way of a commit
+pub record MayCommit (ready spent past : Bool) : Type 0 where
+  pub is_ready : ready ≡ true
+  pub not_spent : spent ≡ false
+  pub not_past : past ≡ false
+
+free_by : (ready spent past : Bool) → unordered_refusal ready spent past ≡ None → MayCommit ready spent past
+free_by false spent past e = absurd (cc)
+free_by true true past e = absurd (cc)
+free_by true false true e = absurd (cc)
+free_by true false false e = record { is_ready = refl; not_spent = refl; not_past = refl }
+
+pub free_of : (b : BookView) (item : Item) (steps : ℕ) → b.ordered ≡ false → refusal b item steps ≡ None → MayCommit (has_item b.ready item) (is_spent b) (is_past_journal b steps)
+free_of b item steps o e = free_by (has_item b.ready item) (is_spent b) (is_past_journal b steps) (sym (refuses b item steps o) ∙ e)
+
+-- the limits, by the same facts
+limit_by : Bool → Bool → Option Limit
+limit_by spent past = if spent then Some limit.Spent else (if past then Some limit.Kept else None)
+
+module _ {T S St : Type 0} (op : Operator) (a b : RoomsView (Value T S)) (rest : Rests St) (c : Core) where
+  abbrev finished : SessionView
+  finished = view_in rest c code.Finished
+
+  abbrev at : (ℕ → GateView) → BookView → Place
+  at gates bk = record { gates = gates; book = bk; session = finished.at }
+
+  -- what the machine does in a loop that isn't ordered, where the iteration isn't named
+  abbrev unnamed : Place → Bool → Turned
+  unnamed p ready = if ready then record { event = event.Commit (length p.book.commits); place = committed p c.worker finished.at } else record { event = event.Drop; place = given_up p c.worker finished.at }
+
+  abbrev finish_by : Place → Bool → Bool → Bool → Turned
+  finish_by p named ready ordered =
+      if named then undo p c.worker finished.at
+      else (if ready then (if not ordered || is_least p.book.ready c.item then record { event = event.Commit (length p.book.commits); place = committed p c.worker finished.at } else record { event = event.Wait; place = p })
+      else record { event = event.Drop; place = given_up p c.worker finished.at })
+
+  pub finishes : (gates : ℕ → GateView) (bk : BookView) (ready : Bool) → is_named bk c.worker c.iter ≡ false → bk.ordered ≡ false → has_item bk.ready c.item ≡ ready → turn_at op (at gates bk) c.worker ≡ unnamed (at gates bk) ready
+  unfolding turn_at
+  finishes gates bk ready n o r = λ i. finish_by (at gates bk) (n i) (r i) (o i)
+
+  pub finish_lost : IsFit op a finished → IsLost a b a.book → TakesTurn op a b finished finished (Ok events.Busy)
+  finish_lost fit loss =
+      let p : Place = base_place a finished in
+      let shared : cut_at op a.book p c.worker finished.at c.pushed Finished a.book ≡ stays p finished.at c.pushed =
+      ap (λ (k : Bool). if k then stays p finished.at c.pushed else (if is_named p.book c.worker c.iter then stays p (undoing finished.at) c.pushed else cut_commit p c.worker finished.at c.pushed (begun_commit p c.worker finished.at) a.book)) (same_number a.book) in
+      lost_turn op a b finished finished a.book loss fit refl refl refl (or_left (a.book == a.book) (is_among (rooms_of c.log) a.book) (same_number a.book)) (λ other es h. h) fit.within (body_of op a finished fit refl) (Ok events.Busy)
+      (
+        subst (λ (x : Shared). IsAfter x event.Busy finished p) (sym shared) (record { event_is = refl; place_is = refl; opened_is = refl; pushed_is = refl }),
+        tt,
+        (λ e. absurd (no_bool (a.book == a.book) (same_number a.book) e)),
+      )
+
+  -- ---- the iteration gives up
+
+  module _ (x : RoomsView (Value T S)) (fit : IsFit op a finished) (was book_now : BookView) (new : Core) (phase : CodePhase St) (pushes : List Item) (handed : IsHandedOut tells a a.book (Book was))
+      (enters : x ≡ entered a a.book (tells {T = T} {S = S} (Book was))) (leaves : b ≡ rooms_left tells x x.book (Book book_now))
+      (calls : has_no_step c.log ≡ false → (book_now ≡ was) × (new ≡ record c { pushes = pushes }) × (phase ≡ code.Undoing))
+      (overs : has_no_step c.log ≡ true → (book_now ≡ put_back was c.worker c.iter) × (new ≡ over c) × (phase ≡ code.Idle)) where
+    abbrev p : Place
+    p = book_place a finished was
+
+    abbrev undoing_view : SessionView
+    undoing_view = view_in rest (record c { pushes = pushes }) code.Undoing
+
+    abbrev over_view : SessionView
+    over_view = view_in rest (over c) code.Idle
+
+    abbrev q_calls : Place
+    q_calls = record { gates = p.gates; book = was; session = undoing_view.at }
+
+    abbrev q_over : Place
+    q_over = record { gates = p.gates; book = put_back was c.worker c.iter; session = over_view.at }
+
+    give_by : (r : Result CodeEvent Stop) → (has_no_step c.log ≡ false → Answers op a.book finished undoing_view p q_calls None r) → (has_no_step c.log ≡ true → Answers op a.book finished over_view p q_over None r)
+        → (k : Bool) → has_no_step c.log ≡ k → TakesTurn op a b finished (view_in rest new phase) r
+    give_by r ans_calls ans_over false e =
+        let h : (book_now ≡ was) × (new ≡ record c { pushes = pushes }) × (phase ≡ code.Undoing) = calls e in
+        subst (λ (f : CodePhase St). TakesTurn op a b finished (view_in rest new f) r) (sym h.2)
+        (subst (λ (k : Core). TakesTurn op a b finished (view_in rest k code.Undoing) r) (sym h.1)
+        (book_turn op a b finished undoing_view was was (book_visited a x b was book_now was handed enters leaves h.0) fit refl refl refl refl (λ room es k. k) fit.within tt r (ans_calls e)))
+    give_by r ans_calls ans_over true e =
+        let h : (book_now ≡ put_back was c.worker c.iter) × (new ≡ over c) × (phase ≡ code.Idle) = overs e in
+        subst (λ (f : CodePhase St). TakesTurn op a b finished (view_in rest new f) r) (sym h.2)
+        (subst (λ (k : Core). TakesTurn op a b finished (view_in rest k code.Idle) r) (sym h.1)
+        (book_turn op a b finished over_view was (put_back was c.worker c.iter) (book_visited a x b was book_now (put_back was c.worker c.iter) handed enters leaves h.0) fit refl refl refl refl
+        (λ room es k. subst (λ steps. IsLogIn room c.worker c.iter c.item steps es) (is_none c.log e) k) tt refl r (ans_over e)))
+
+    give_turn : (r : Result CodeEvent Stop) → (has_no_step c.log ≡ false → Answers op a.book finished undoing_view p q_calls None r) → (has_no_step c.log ≡ true → Answers op a.book finished over_view p q_over None r)
+        → TakesTurn op a b finished (view_in rest new phase) r
+    give_turn r ans_calls ans_over = give_by r ans_calls ans_over (has_no_step c.log) refl
+
+    pub drop_turn : pushes ≡ c.pushes → is_named was c.worker c.iter ≡ false → was.ordered ≡ false → has_item was.ready c.item ≡ false → TakesTurn op a b finished (view_in rest new phase) (Ok events.Drop)
+    drop_turn same n o r =
+        let u : Turned = record { event = event.Drop; place = given_up p c.worker finished.at } in
+        let turns : turn_at op p c.worker ≡ u = finishes p.gates was false n o r in
+        give_turn (Ok events.Drop)
+        (λ e. whole op a b finished undoing_view p q_calls u events.Drop turns refl refl
+        ((λ i. record { gates = p.gates; book = was; session = record undoing_view.at { outcome = record { steps = c.log; pushes = same i; withdrawn = [] } } })
+        ∙ sym (unless_true (has_no_step c.log) (let_go p c.worker finished.at) (record { gates = p.gates; book = was; session = undoing finished.at }) e)) refl refl refl tt)
+        (λ e. whole op a b finished over_view p q_over u events.Drop turns refl refl
+        (sym (where_true (has_no_step c.log) (let_go p c.worker finished.at) (record { gates = p.gates; book = was; session = undoing finished.at }) e)) refl refl refl tt)
+
+    pub stop_turn : (stop : Stop) → pushes ≡ [] → IsCause stop (limit_on op p c.worker) → TakesTurn op a b finished (view_in rest new phase) (Err stop)
+    stop_turn stop none cause = give_turn (Err stop)
+        (λ e. record {
+          may = refl;
+          cause = cause;
+          place_is = (λ i. record { gates = p.gates; book = was; session = record undoing_view.at { outcome = record { steps = c.log; pushes = none i; withdrawn = [] } } })
+          ∙ sym (unless_true (has_no_step c.log) (let_go p c.worker finished.at) (record { gates = p.gates; book = was; session = undone_to finished.at c.log }) e);
+          opened_is = refl;
+          pushed_is = refl;
+        })
+        (λ e. record {
+          may = refl;
+          cause = cause;
+          place_is = sym (where_true (has_no_step c.log) (let_go p c.worker finished.at) (record { gates = p.gates; book = was; session = undone_to finished.at c.log }) e);
+          opened_is = refl;
+          pushed_is = refl;
+        })
+
+    -- the limit that the commit would pass
+    pub passes : (spent past : Bool) → is_named was c.worker c.iter ≡ false → was.ordered ≡ false → has_item was.ready c.item ≡ true → is_spent was ≡ spent → is_past_journal was (length c.log) ≡ past
+        → limit_on op p c.worker ≡ (if spent then Some limit.Spent else (if past then Some limit.Kept else None))
+    passes spent past n o r s j =
+        ap (λ (u : Turned). limit_at u.event was (length c.log)) (finishes p.gates was true n o r) ∙ (λ i. if s i then Some limit.Spent else (if j i then Some limit.Kept else None))
