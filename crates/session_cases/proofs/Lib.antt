@@ -1,2 +1,4 @@
+mod Beginning
 mod LostTakes
+mod NewRooms
 mod ScriptMoves

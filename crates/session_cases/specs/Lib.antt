@@ -1,2 +1,3 @@
 pub mod LostTakes
 pub mod Scripts
+pub mod Beginnings

@@ -1,14 +1,23 @@
 //! What one session does where the rooms that it needs are held, over cells: each event worked by hand from what a turn
 //! does in each state.
 
+ghost use Rattle.std.specs.Prelude.{◌≡◌, false, IfOk};
+ghost use Rattle.commit_book.specs.SerialRuns.{operator_of};
+ghost use Rattle.iterate.specs.Places.{IsFit};
+ghost use Rattle.iterate.specs.SessionViews.{view_of as session_view};
+ghost use Rattle.rooms.specs.Values.{tells};
+ghost use Rattle.rooms.specs.Visits.{view_of};
+ghost use Rattle.session_cases.specs.Beginnings.{IsBegunGate, AreBegun};
+ghost use Rattle.session_cases.specs.LostTakes.{lossy_view};
+
 use crate::lossy_rooms::LossyRooms;
 use crate::scripts::Scripts;
-use commit_book::Book;
+use commit_book::{Book, Operator};
 use gate_core::laws::shipped_tables_serve_gates;
-use gate_core::{Gate, ScanScreen};
+use gate_core::{Gate, ScanScreen, Screen};
 use gx_base::{Act, Call, Choice, Item, Kind, NoMemory, SeqType};
 use iterate::{Event, Session, Stop};
-use rooms::{Value, VecRooms};
+use rooms::{Rooms, Value, VecRooms};
 use shared_sets::laws::shipped_tables_are_not_general;
 use shared_sets::{Cells, cells_methods};
 use std::alloc::Global;
@@ -51,7 +60,9 @@ fn call(room: u32, method: u32, key: i64, number: i64) -> Act {
 }
 
 /// The bodies: each begins at the place that its item says.
-fn scripts(alloc: Global) -> Result<Scripts, NoMemory> {
+fn scripts(alloc: Global) -> Result<Scripts, NoMemory>
+    ensures { IfOk result (λ op. op.rooms ≡ 2) }
+{
     let add = cells_methods::ADD;
     let read = cells_methods::READ;
     let acts = vec![in alloc;
@@ -77,7 +88,9 @@ fn scripts(alloc: Global) -> Result<Scripts, NoMemory> {
     Ok(Scripts::new(2, acts))
 }
 
-fn cells_gate(alloc: Global) -> Result<Gate<Cells, ScanScreen>, NoMemory> {
+fn cells_gate(alloc: Global) -> Result<Gate<Cells, ScanScreen>, NoMemory>
+    ensures { IfOk result (λ gate. IsBegunGate gate) }
+{
     let table = Cells::shipped(alloc, Kind::Cells, Choice::Precise)?;
     shipped_tables_serve_gates::<Cells>();
     shipped_tables_are_not_general();
@@ -85,29 +98,69 @@ fn cells_gate(alloc: Global) -> Result<Gate<Cells, ScanScreen>, NoMemory> {
     Ok(Gate::new(alloc, object, Kind::Cells, table, ScanScreen::new()))
 }
 
-/// Two gates, the second of which has an uncommitted call of worker 9 on the cell 3, and the book, in which an item is
-/// ready. The takes are lost that the list says, the first of it first.
+/// With an uncommitted call of worker 9 on the cell 3.
+fn blocked_gate(alloc: Global) -> Result<Gate<Cells, ScanScreen>, NoMemory>
+    ensures { IfOk result (λ gate. IsBegunGate gate) }
+{
+    let mut gate = cells_gate(alloc)?;
+    let set = Call::new(cells_methods::SET, 3, 8, 0, 0);
+    match gate.call(9, 0, Item::new(0, 0, 0, 0), set) {
+        Ok(_) => Ok(gate),
+        Err(_) => Err(NoMemory),
+    }
+}
+
+/// Two gates, the second of which is blocked, and the book, in which an item is ready.
+fn three_rooms(alloc: Global, first: i64) -> Result<VecRooms<Value<Cells, ScanScreen>>, NoMemory>
+    ensures { IfOk result (λ rooms. AreBegun (view_of tells rooms)) }
+{
+    let free = cells_gate(alloc)?;
+    let blocked = blocked_gate(alloc)?;
+    let book = Book::new(alloc, false, &[Item::new(first, 0, 0, 0)])?;
+    let values = vec![in alloc;
+        Value::Object(free),
+        Value::Object(blocked),
+        Value::Book(book),
+    ]?;
+    Ok(VecRooms::new(alloc, values))
+}
+
+/// The takes are lost that the list says, the first of it first.
 fn lossy_rooms(
     alloc: Global,
     first: i64,
     lost: &[bool],
-) -> Result<LossyRooms<Value<Cells, ScanScreen>>, NoMemory> {
-    let mut blocked = cells_gate(alloc)?;
-    let _reply = blocked.call(
-        9,
-        0,
-        Item::new(0, 0, 0, 0),
-        Call::new(cells_methods::SET, 3, 8, 0, 0),
-    );
-    let mut values = Vec::new(alloc);
-    values.push(Value::Object(cells_gate(alloc)?))?;
-    values.push(Value::Object(blocked))?;
-    values.push(Value::Book(Book::new(alloc, false, &[Item::new(first, 0, 0, 0)])?))?;
+) -> Result<LossyRooms<Value<Cells, ScanScreen>>, NoMemory>
+    ensures { IfOk result (λ lossy. AreBegun (lossy_view tells lossy.rooms lossy.lost.items)) }
+{
+    let rooms = three_rooms(alloc, first)?;
+    LossyRooms::new(alloc, rooms, from_the_last(alloc, lost)?)
+}
+
+fn from_the_last(alloc: Global, lost: &[bool]) -> Result<Vec<bool>, NoMemory> {
     let mut losses = Vec::new(alloc);
     for place in (0..lost.len()).rev() {
         losses.push(lost[place])?;
     }
-    LossyRooms::new(alloc, VecRooms::new(alloc, values), losses)
+    Ok(losses)
+}
+
+/// Whether the turns of a session answer so.
+fn answers_so<O: Operator, R: Rooms<Value<T, S>>, T: SeqType, S: Screen<T>>(
+    op: &O,
+    rooms: &mut R,
+    session: &mut Session<O>,
+    wants: &[Want],
+) -> bool
+    requires unordered { O.is_ordered op.now ≡ false }
+    requires fit { IsFit (operator_of O.Operator op.now) (R.view rooms.old) (session_view (O.rest op.now) session.old) }
+{
+    for want in wants {
+        if !is_wanted(session.turn(rooms, op), *want) {
+            return false;
+        }
+    }
+    true
 }
 
 /// Whether the turns of worker 0 answer so.
@@ -115,12 +168,7 @@ fn goes_so(alloc: Global, first: i64, lost: &[bool], wants: &[Want]) -> Result<b
     let op = scripts(alloc)?;
     let mut rooms = lossy_rooms(alloc, first, lost)?;
     let mut session: Session<Scripts> = Session::new(alloc, 0);
-    for want in wants {
-        if !is_wanted(session.turn(&mut rooms, &op), *want) {
-            return Ok(false);
-        }
-    }
-    Ok(true)
+    Ok(answers_so(&op, &mut rooms, &mut session, wants))
 }
 
 const FREE: bool = false;

@@ -4,6 +4,8 @@
 
 #[cfg(test)]
 mod busy_cases;
+#[cfg(test)]
+mod diamond_cases;
 mod lossy_rooms;
 #[cfg(test)]
 mod networks;

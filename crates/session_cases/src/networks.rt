@@ -1,15 +1,19 @@
 //! Networks, what they begin with, and rooms of gates over them.
 
-ghost use Rattle.std.specs.Prelude.{◌<◌};
+ghost use Rattle.std.specs.Prelude.{◌≡◌, ◌<◌, length, IfOk, OnOk};
+ghost use Rattle.rooms.specs.Values.{tells};
+ghost use Rattle.rooms.specs.Visits.{view_of};
+ghost use Rattle.speculation.specs.ScheduledRuns.{AllBelow};
+ghost use Rattle.session_cases.specs.Beginnings.{IsNewGate, AreNewGates, AreNewRooms};
 
 use crate::plain_rooms::PlainRoom;
 use commit_book::Book;
 use flow_graph::{EXCESS, FLOW, FlowShard, HEIGHT};
 use gate_core::laws::shipped_tables_serve_gates;
-use gate_core::{Gate, ScanScreen, Screen};
+use gate_core::{Gate, ScanScreen};
 use gx_base::{Choice, Item, Kind, NoMemory, SeqType};
 use preflow_push::{Arc, Network, start};
-use rooms::Value;
+use rooms::{Value, VecRooms};
 use std::alloc::Global;
 
 pub const ROOMS: i64 = 16;
@@ -125,22 +129,48 @@ fn begin(rooms: &mut [PlainRoom], method: u32, number: i64, value: i64) -> Resul
     }
 }
 
-fn flow_gate(alloc: Global, shard: FlowShard) -> Result<Gate<FlowShard, ScanScreen>, NoMemory> {
+fn flow_gate(alloc: Global, shard: FlowShard) -> Result<Gate<FlowShard, ScanScreen>, NoMemory>
+    ensures { IfOk result (λ gate. IsNewGate gate) }
+{
     let table = FlowShard::shipped(alloc, Kind::Flow, Choice::Precise)?;
     shipped_tables_serve_gates::<FlowShard>();
     Ok(Gate::new(alloc, shard, Kind::Flow, table, ScanScreen::new()))
 }
 
-/// A gate for each of the shards that a network begins with, and then the book.
-pub fn gates_and_book(
+fn flow_gates(
     alloc: Global,
-    net: &Network,
-) -> Result<Vec<Value<FlowShard, ScanScreen>>, NoMemory> {
-    let (shards, ready) = start(alloc, net)?;
+    shards: Vec<FlowShard>,
+) -> Result<Vec<Value<FlowShard, ScanScreen>>, NoMemory>
+    ensures new { IfOk result (λ values. AreNewGates values.items) }
+    ensures count { IfOk result (λ values. length values.items ≡ length shards.items) }
+{
     let mut values = Vec::new(alloc);
     for shard in shards {
         values.push(Value::Object(flow_gate(alloc, shard)?))?;
     }
-    values.push(Value::Book(Book::new(alloc, false, &ready)?))?;
     Ok(values)
+}
+
+/// A gate for each of the shards that a network begins with, and then the book.
+pub fn new_rooms(
+    alloc: Global,
+    net: &Network,
+) -> Result<VecRooms<Value<FlowShard, ScanScreen>>, NoMemory>
+    ensures { IfOk result (λ rooms. AreNewRooms (view_of tells rooms)) }
+{
+    let (shards, ready) = start(alloc, net)?;
+    let mut values = flow_gates(alloc, shards)?;
+    let book = Book::new(alloc, false, &ready)?;
+    values.push(Value::Book(book))?;
+    Ok(VecRooms::new(alloc, values))
+}
+
+/// One more turn of a schedule.
+pub fn add_turn(schedule: &mut Vec<u32>, workers: u32, worker: u32) -> Result<(), NoMemory>
+    requires below { worker < workers }
+    requires all { AllBelow schedule.old.items workers }
+    ensures { OnOk result (AllBelow schedule.new.items workers) }
+{
+    schedule.push(worker)?;
+    Ok(())
 }

@@ -115,6 +115,10 @@ impl<O: Operator> PlainWorker<O> {
         }
     }
 
+    pub fn worker(&self) -> u32 {
+        self.worker
+    }
+
     pub fn is_idle(&self) -> bool {
         match self.state {
             State::Idle => true,
