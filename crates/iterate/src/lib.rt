@@ -1,0 +1,6 @@
+//! Sessions.
+#![tactic(auto)]
+
+mod events;
+
+pub use events::{Event, Stop, Turn};
