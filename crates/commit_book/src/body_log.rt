@@ -6,7 +6,7 @@ use gx_base::{Item, Step};
 use std::alloc::Global;
 
 /// What the body of an item did: its steps and its pushes, each in their order.
-#[derive(Debug, Drop)]
+#[derive(Drop)]
 pub struct BodyLog {
     pub steps: Vec<Step>,
     pub pushes: Vec<Item>,

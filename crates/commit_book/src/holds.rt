@@ -7,7 +7,7 @@ use std::collections::BTreeMap;
 use std::marker::Model;
 
 /// An iteration that holds an item: a worker with one of its numbers.
-#[derive(Clone, Copy, Debug, Drop)]
+#[derive(Clone, Copy, Drop)]
 pub struct Holder {
     pub worker: u32,
     pub iter: u64,

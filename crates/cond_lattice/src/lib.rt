@@ -20,8 +20,6 @@ mod same;
 mod simple;
 mod table_classes;
 mod table_rules;
-#[cfg(test)]
-mod tests;
 
 pub use classes::class;
 pub use grades::Grade;

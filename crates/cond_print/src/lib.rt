@@ -8,8 +8,6 @@
 mod conditions;
 mod tables;
 mod terms;
-#[cfg(test)]
-mod tests;
 
 pub use conditions::print_cond;
 pub use tables::print_table;

@@ -7,4 +7,6 @@ mod discharge_cases;
 #[cfg(test)]
 mod file_cases;
 #[cfg(test)]
+mod number_cases;
+#[cfg(test)]
 mod shard_cases;

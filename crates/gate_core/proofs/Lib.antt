@@ -3,5 +3,4 @@ pub mod replays
 pub mod lawful
 pub mod deeds
 pub mod scans
-pub mod objects
 pub mod CallerLemmas

@@ -5,5 +5,4 @@ pub mod CallAnswers
 pub mod LastPlaces
 pub mod Swaps
 pub mod Scans
-pub mod EmptySetMethods
 pub mod Homes

@@ -24,6 +24,3 @@ pub use gx_base::Entry;
 pub use refusals::{GateRefuse, Told};
 pub use scanning::ScanScreen;
 pub use screens::Screen;
-
-#[cfg(test)]
-mod tests;

@@ -5,6 +5,8 @@
 #[cfg(test)]
 mod gate_cases;
 #[cfg(test)]
+mod meagre_cases;
+#[cfg(test)]
 mod model;
 #[cfg(test)]
 mod model_runs;

@@ -22,8 +22,6 @@ mod memory;
 mod sequential;
 mod spots;
 mod tables;
-#[cfg(test)]
-mod tests;
 
 pub use acts::{Act, Commit, Entry, Step};
 pub use calls::{Call, Made, Reply, Room, Seen, Spot};

@@ -14,8 +14,6 @@ mod never;
 mod numbered_calls;
 mod real;
 mod sinks;
-#[cfg(test)]
-mod tests;
 
 pub use fault::{IoFault, NoMemory, SinkFailed, WholeRefuse};
 pub use files::{Files, read_whole};

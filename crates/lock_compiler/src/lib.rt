@@ -12,8 +12,6 @@ pub mod laws;
 mod members;
 mod modes;
 mod reducing;
-#[cfg(test)]
-mod tests;
 mod wants;
 
 pub use compiling::{CompileRefuse, compile};

@@ -10,6 +10,3 @@
 mod rows;
 
 pub use rows::{LEAST_TIDIED, NumberRows};
-
-#[cfg(test)]
-mod tests;

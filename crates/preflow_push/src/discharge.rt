@@ -20,7 +20,7 @@ use std::alloc::Global;
 
 /// The work on a node: its excess is pushed along its arcs to lower nodes, and where some is left
 /// the node rises. The items are the numbers of nodes, in `k0`.
-#[derive(Debug, Drop)]
+#[derive(Drop)]
 pub struct Discharge {
     nodes: i64,
     source: i64,

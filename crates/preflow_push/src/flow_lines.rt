@@ -7,7 +7,7 @@ ghost use Rattle.preflow_push.specs.FlowLines.{said_by, three_of, two_of, proble
 use text_lines::{next_field, number};
 
 /// What one line says, in numbers of at most 18 digits.
-#[derive(Clone, Copy, Debug, PartialEq, Eq)]
+#[derive(Clone, Copy)]
 pub enum Said {
     /// Nothing: the line is skipped.
     Nothing,

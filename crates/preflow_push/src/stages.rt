@@ -1,7 +1,7 @@
 use crate::touches::Touch;
 
 /// A node on its way over its arcs.
-#[derive(Clone, Copy, Debug, PartialEq, Eq, Drop)]
+#[derive(Clone, Copy, Drop)]
 pub struct Walk {
     pub node: i64,
     pub height: i64,
@@ -15,7 +15,7 @@ pub struct Walk {
 }
 
 /// Where the body of a node stands. A stage that comes after a call takes the call's reply.
-#[derive(Clone, Copy, Debug, PartialEq, Eq, Drop)]
+#[derive(Clone, Copy, Drop)]
 pub enum Stage {
     Begin {
         node: i64,

@@ -8,7 +8,7 @@ use indexmap::IndexMap;
 use std::alloc::Global;
 
 /// An arc as one of its ends sees it.
-#[derive(Clone, Copy, Debug, PartialEq, Eq, Drop)]
+#[derive(Clone, Copy, Drop)]
 pub struct Touch {
     pub number: i64,
     /// The arc's other end.
@@ -19,7 +19,7 @@ pub struct Touch {
 }
 
 /// For each node the arcs that touch it, by rising number.
-#[derive(Debug, Drop)]
+#[derive(Drop)]
 pub struct Touches {
     lists: IndexMap<i64, Vec<Touch>>,
 }

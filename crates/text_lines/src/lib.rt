@@ -12,6 +12,3 @@ mod numbers;
 pub use fields::{is_blank, next_field};
 pub use lines::first_line;
 pub use numbers::number;
-
-#[cfg(test)]
-mod tests;

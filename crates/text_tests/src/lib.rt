@@ -7,6 +7,10 @@ mod depth_cases;
 #[cfg(test)]
 mod fault_cases;
 #[cfg(test)]
+mod line_cases;
+#[cfg(test)]
+mod print_cases;
+#[cfg(test)]
 mod printed_cases;
 #[cfg(test)]
 mod table_texts;

@@ -1,0 +1,6 @@
+use Rattle.std.proofs.Common.{◌≡◌, drop}
+use Rattle.iterate.specs.RoomLists.{rooms_of}
+use Rattle.iterate.proofs.releases.Releases.of.Given as goal
+
+abbrev pub invariant-loop-place : goal.invariant-loop-place
+invariant-loop-place l = l.rooms.keys ≡ rooms_of (drop l.place l.log)

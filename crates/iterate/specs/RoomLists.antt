@@ -1,0 +1,31 @@
+-- Lists of rooms, and the steps that are in them.
+use Rattle.std.specs.Prelude.{ℕ, Bool, true, false, ◌||◌, ◌==◌, if◌then◌else◌, List, [], ◌∷◌, filter}
+use Rattle.std.specs.Ordering.{nat_cmp}
+use Rattle.std.specs.BTreeSet.{insert_key}
+use Rattle.gx_base.specs.declared.acts.Step.{Step}
+
+abbrev pub is_among : List ℕ → ℕ → Bool
+is_among [] room = false
+is_among (x ∷ xs) room = (x == room) || is_among xs room
+
+-- the rooms of some steps, each once, by rising number
+abbrev pub rooms_of : List Step → List ℕ
+rooms_of [] = []
+rooms_of (step ∷ steps) = insert_key nat_cmp (rooms_of steps) step.room
+
+-- the part of some steps in these rooms
+abbrev pub steps_in : List ℕ → List Step → List Step
+steps_in rooms steps = filter (λ (step : Step). is_among rooms step.room) steps
+
+-- the rooms before this one in a list, and it with those after it
+abbrev pub before : List ℕ → ℕ → List ℕ
+before [] room = []
+before (x ∷ xs) room = if x == room then [] else x ∷ before xs room
+
+abbrev pub on_from : List ℕ → ℕ → List ℕ
+on_from [] room = []
+on_from (x ∷ xs) room = if x == room then x ∷ xs else on_from xs room
+
+abbrev pub rest_of : List ℕ → List ℕ
+rest_of [] = []
+rest_of (x ∷ xs) = xs

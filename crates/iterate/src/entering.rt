@@ -1,0 +1,74 @@
+ghost use Rattle.std.specs.Prelude.{◌≡◌, ◌<◌, true, false, IfSome, IfNone};
+ghost use Rattle.gate_core.specs.Homes as gates;
+ghost use Rattle.commit_book.specs.Homes as books;
+ghost use Rattle.rooms.specs.RoomsViews.{is_held, entered, left};
+ghost use Rattle.rooms.specs.HandedOut.{IsHandedOut, IsLost, MayHaveMark, MayHaveCommits};
+ghost use Rattle.rooms.specs.Values.{tells};
+ghost use Rattle.rooms.specs.declared.values.Value.TheVariants as values;
+
+use commit_book::Book;
+use gate_core::{Gate, Screen};
+use gx_base::{Room, SeqType};
+use rooms::{Rooms, Value};
+
+/// The gate of a room, unless another caller holds the room.
+pub fn enter_gate<R: Rooms<Value<T, S>>, T: SeqType, S: Screen<T>>(
+    rooms: &mut R,
+    room: Room,
+) -> Option<Gate<T, S>>
+    requires in_range { room < (R.view rooms.old).book }
+    requires free { is_held (R.view rooms.old) room ≡ false }
+    ensures gate { IfSome result (λ gate. IsHandedOut tells (R.view rooms.old) room (values.Object gate)) }
+    ensures some { IfSome result (λ gate. R.view rooms.new ≡ entered (R.view rooms.old) room (gates.room_view gate)) }
+    ensures none { IfNone result (IsLost (R.view rooms.old) (R.view rooms.new) room) }
+    ensures loan { R.loan rooms.new ≡ R.loan rooms.old }
+{
+    match rooms.try_enter(room) {
+        Some(Value::Object(gate)) => Some(gate),
+        Some(Value::Book(_)) => None,
+        None => None,
+    }
+}
+
+/// Puts a gate in its room.
+pub fn leave_gate<R: Rooms<Value<T, S>>, T: SeqType, S: Screen<T>>(
+    rooms: &mut R,
+    room: Room,
+    gate: Gate<T, S>,
+)
+    requires in_range { room < (R.view rooms.old).book }
+    requires held { is_held (R.view rooms.old) room ≡ true }
+    requires mark { MayHaveMark (R.view rooms.old) room gate.mark }
+    ensures view { R.view rooms.new ≡ left tells (R.view rooms.old) room (values.Object gate) }
+    ensures loan { R.loan rooms.new ≡ R.loan rooms.old }
+{
+    rooms.leave(room, Value::Object(gate));
+}
+
+/// The book, unless another caller holds its room.
+pub fn enter_book<R: Rooms<Value<T, S>>, T: SeqType, S: Screen<T>>(rooms: &mut R) -> Option<Book>
+    requires free { is_held (R.view rooms.old) (R.view rooms.old).book ≡ false }
+    ensures book { IfSome result (λ book. IsHandedOut tells (R.view rooms.old) (R.view rooms.old).book (values.Book book)) }
+    ensures some { IfSome result (λ book. R.view rooms.new ≡ entered (R.view rooms.old) (R.view rooms.old).book (books.room_view book)) }
+    ensures none { IfNone result (IsLost (R.view rooms.old) (R.view rooms.new) (R.view rooms.old).book) }
+    ensures loan { R.loan rooms.new ≡ R.loan rooms.old }
+{
+    let room = rooms.book();
+    match rooms.try_enter(room) {
+        Some(Value::Book(book)) => Some(book),
+        Some(Value::Object(_)) => None,
+        None => None,
+    }
+}
+
+/// Puts the book in its room.
+pub fn leave_book<R: Rooms<Value<T, S>>, T: SeqType, S: Screen<T>>(rooms: &mut R, book: Book)
+    requires held { is_held (R.view rooms.old) (R.view rooms.old).book ≡ true }
+    requires ordered { book.ordered ≡ (R.view rooms.old).ordered }
+    requires commits { MayHaveCommits (R.view rooms.old) book.commits }
+    ensures view { R.view rooms.new ≡ left tells (R.view rooms.old) (R.view rooms.old).book (values.Book book) }
+    ensures loan { R.loan rooms.new ≡ R.loan rooms.old }
+{
+    let room = rooms.book();
+    rooms.leave(room, Value::Book(book));
+}

@@ -1,0 +1,4 @@
+pub mod CallerLemmas
+mod kept
+mod puts
+mod visits

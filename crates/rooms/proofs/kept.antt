@@ -1,0 +1,3 @@
+pub mod EnteredRooms
+pub mod FirstRooms
+pub mod LeftRooms

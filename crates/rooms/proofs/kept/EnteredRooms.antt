@@ -1,0 +1,88 @@
+-- Rooms in a vector are kept where one is entered.
+use Rattle.std.specs.Prelude.{◌≡◌, ℕ, ◌+◌, ◌≤◌, Bool, true, false, ◌==◌, if◌then◌else◌, Option, Some, None, List, length, slice_get, slice_set, is_some, refl}
+use Rattle.std.specs.Option.{option_map}
+use Rattle.std.proofs.Common.{sym, ◌∙◌, ap, subst, arith, get_or}
+use Rattle.std.proofs.lemmas.Option.{slice_get_read}
+use Rattle.std.proofs.lemmas.List.{length-set}
+use Rattle.gx_base.specs.RoomViews.{RoomView, is_book}
+use Rattle.rooms.specs.RoomsViews.{RoomsView, is_held, holds_book, commits_entered, commits_in, nowhere, entered}
+use Rattle.rooms.specs.HandedOut.{IsTold, IsHandedOut}
+use Rattle.rooms.specs.Visits.{count_in, count_of, AreKept}
+use Rattle.rooms.proofs.puts.Putting.{no_bool, numbers_equal, numbers_differ, get_other}
+
+module _ {V : Type 0} (tells : V → RoomView) (view : RoomsView V) (values : List V) (k : AreKept tells view values) where
+  -- a held book has as many commits as it had when it was entered
+  pub entered_commits : holds_book view ≡ true → commits_entered view ≡ count_of tells view
+  entered_commits h = ap commits_in (k.held view.book h) ∙ counted (view.told view.book) where
+    counted : (o : Option V) → commits_in (option_map tells o) ≡ count_in tells o
+    counted None = refl
+    counted (Some value) = refl
+
+  module _ (room : ℕ) (value : V) (free : is_held view room ≡ false) (at : view.told room ≡ Some value) where
+    -- what is handed out is what the room tells
+    value_handed_out : IsHandedOut tells view room value
+    value_handed_out = record {
+      suits = k.suits room value at;
+      live = λ is. k.live room value at;
+      mark = λ is h. subst (λ n. (tells value).mark ≤ (if view.released room then n + 1 else n)) (sym (entered_commits h)) (k.marks room value at is);
+      told = subst (λ o. IsTold o value) (sym at) refl;
+    }
+
+    abbrev seen : RoomView
+    seen = tells value
+
+    home_by : (vacant : V) (q : ℕ) (b : Bool) → (room == q) ≡ b → is_some (if b then Some seen else view.held q) ≡ false → view.told q ≡ slice_get (slice_set values room vacant) q
+    home_by vacant q true e h = absurd (cc)
+    home_by vacant q false e h = k.home q h ∙ sym (get_other values room q vacant (numbers_differ room q e))
+
+    held_by : (q : ℕ) (b : Bool) → (room == q) ≡ b → is_some (if b then Some seen else view.held q) ≡ true → (if b then Some seen else view.held q) ≡ option_map tells (view.told q)
+    held_by q true e h = sym (ap (option_map tells) (subst (λ r. view.told r ≡ Some value) (numbers_equal room q e) at))
+    held_by q false e h = k.held q h
+
+    in_range_by : (q : ℕ) (b : Bool) → room ≤ view.book → (room == q) ≡ b → is_some (if b then Some seen else view.held q) ≡ true → q ≤ view.book
+    in_range_by q true in_range e h = subst (λ r. r ≤ view.book) (numbers_equal room q e) in_range
+    in_range_by q false in_range e h = k.in_range q h
+
+    -- nothing is released while the book isn't held
+    unreleased : (q : ℕ) → (room == view.book) ≡ true → view.released q ≡ false
+    unreleased q e = by (view.released q) refl where
+      by : (b : Bool) → view.released q ≡ b → view.released q ≡ false
+      by true h = absurd (no_bool (holds_book view) (k.released q h) (subst (λ r. is_held view r ≡ false) (numbers_equal room view.book e) free))
+      by false h = h
+
+    marks_by : (q : ℕ) (other : V) (b : Bool) → (room == view.book) ≡ b → view.told q ≡ Some other → is_book (tells other).origin ≡ false
+        → (tells other).mark ≤ (if (if b then nowhere else view.released) q then count_of tells view + 1 else count_of tells view)
+    marks_by q other true e h is = subst (λ (c : Bool). (tells other).mark ≤ (if c then count_of tells view + 1 else count_of tells view)) (unreleased q e) (k.marks q other h is)
+    marks_by q other false e h is = k.marks q other h is
+
+    released_by : (q : ℕ) (b : Bool) → (room == view.book) ≡ b → (if b then nowhere else view.released) q ≡ true → is_some (if b then Some seen else view.held view.book) ≡ true
+    released_by q true e h = absurd (cc)
+    released_by q false e h = k.released q h
+
+    -- the room's place may have any value then
+    entered_kept : (vacant : V) → room ≤ view.book → AreKept tells (entered view room seen) (slice_set values room vacant)
+    entered_kept vacant in_range = record {
+      size = length-set values room vacant ∙ k.size;
+      limit = k.limit;
+      home = λ q. home_by vacant q (room == q) refl;
+      held = λ q. held_by q (room == q) refl;
+      in_range = λ q. in_range_by q (room == q) in_range refl;
+      suits = k.suits;
+      live = k.live;
+      marks = λ q other. marks_by q other (room == view.book) refl;
+      released = λ q. released_by q (room == view.book) refl;
+    }
+
+-- the same where the value stands in the vector
+told_there : {V : Type 0} (tells : V → RoomView) (view : RoomsView V) (values : List V) (room : ℕ) (value : V) → AreKept tells view values → room ≤ view.book → is_held view room ≡ false → value ≡ get_or values room value → view.told room ≡ Some value
+told_there tells view values room value k in_range free is =
+    k.home room free ∙ slice_get_read values (length values) room value refl (let n : length values ≡ view.book + 1 = k.size in omega arith) is
+
+pub handed_out : {V : Type 0} (tells : V → RoomView) (view : RoomsView V) (values : List V) (room : ℕ) (value : V) → AreKept tells view values → room ≤ view.book → is_held view room ≡ false → value ≡ get_or values room value → IsHandedOut tells view room value
+handed_out tells view values room value k in_range free is =
+    value_handed_out tells view values k room value free (told_there tells view values room value k in_range free is)
+
+pub handed_out_kept : {V : Type 0} (tells : V → RoomView) (view : RoomsView V) (values : List V) (room : ℕ) (value vacant : V) → AreKept tells view values → room ≤ view.book → is_held view room ≡ false → value ≡ get_or values room value
+    → AreKept tells (entered view room (tells value)) (slice_set values room vacant)
+handed_out_kept tells view values room value vacant k in_range free is =
+    entered_kept tells view values k room value free (told_there tells view values room value k in_range free is) vacant in_range

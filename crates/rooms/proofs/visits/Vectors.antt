@@ -1,0 +1,44 @@
+-- Rooms in a vector act for every worker, and never lose a take.
+use Rattle.std.specs.Prelude.{◌≡◌, ℕ, ◌+◌, ◌-◌, ◌≤◌, min, Bool, true, false, if◌then◌else◌, List, [], ◌∷◌, length, slice_get, refl}
+use Rattle.std.proofs.Common.{◌∙◌, ap, subst, arith}
+use Rattle.gx_base.specs.RoomViews.{RoomView}
+use Rattle.rooms.specs.RoomsViews.{RoomsView, entered, left}
+use Rattle.rooms.specs.HandedOut.{HasRisen}
+use Rattle.rooms.specs.Visits.{Move, Visits, everyone, ordered_in, first_view, after_moves, view_of}
+
+-- what no move changes
+record IsFixed {V : Type 0} (before after : RoomsView V) : Type 0 where
+  pub book : after.book ≡ before.book
+  pub ordered : after.ordered ≡ before.ordered
+  pub acts_for : after.acts_for ≡ before.acts_for
+  pub lost : after.lost ≡ before.lost
+
+module _ {V : Type 0} (tells : V → RoomView) where
+  one_move : (was_left : Bool) (room : ℕ) (value : V) (view : RoomsView V) → IsFixed view (if was_left then left tells view room value else entered view room (tells value))
+  one_move true room value view = record { book = refl; ordered = refl; acts_for = refl; lost = refl }
+  one_move false room value view = record { book = refl; ordered = refl; acts_for = refl; lost = refl }
+
+  all_moves : (moves : List (Move V)) (view : RoomsView V) → IsFixed view (after_moves tells moves view)
+  all_moves [] view = record { book = refl; ordered = refl; acts_for = refl; lost = refl }
+  all_moves (move ∷ moves) view =
+      let one = one_move move.was_left move.room move.value (after_moves tells moves view) in
+      let all = all_moves moves view in
+      record { book = one.book ∙ all.book; ordered = one.ordered ∙ all.ordered; acts_for = one.acts_for ∙ all.acts_for; lost = one.lost ∙ all.lost }
+
+  module _ (visits : Visits V) where
+    pub vector_book : (view_of tells visits).book ≡ length visits.values - 1
+    vector_book = (all_moves visits.moves (first_view tells visits.values)).book
+
+    pub vector_ordered : (view_of tells visits).ordered ≡ ordered_in tells (slice_get visits.values (length visits.values - 1))
+    vector_ordered = (all_moves visits.moves (first_view tells visits.values)).ordered
+
+    pub vector_acts_for : (view_of tells visits).acts_for ≡ everyone
+    vector_acts_for = (all_moves visits.moves (first_view tells visits.values)).acts_for
+
+    pub vector_lost : (room : ℕ) → (view_of tells visits).lost room ≡ 0
+    vector_lost room = ap (λ f. f room) (all_moves visits.moves (first_view tells visits.values)).lost
+
+  pub vector_never_risen : (before after : Visits V) (room : ℕ) → HasRisen ((view_of tells before).lost room) ((view_of tells after).lost room) → ⊥
+  vector_never_risen before after room h = absurd (
+      let risen : min (0 + 1) 18446744073709551615 ≤ 0 = subst (λ n. min (n + 1) 18446744073709551615 ≤ 0) (vector_lost before room) (subst (λ n. min ((view_of tells before).lost room + 1) 18446744073709551615 ≤ n) (vector_lost after room) h) in omega arith
+      )

@@ -1,0 +1,82 @@
+ghost use Rattle.std.specs.Prelude.{◌≡◌, ◌<◌, ◌^◌, ℕ, true, false, [], length, map, slice_get};
+ghost use Rattle.rooms.specs.RoomsViews.{is_held};
+ghost use Rattle.rooms.specs.Visits.{AreGatesAndBook, view_of};
+
+use crate::history::History;
+use crate::rooms::Rooms;
+use crate::vacant::Vacant;
+use gx_base::Room;
+use std::alloc::Global;
+use std::marker::Model;
+use std::mem;
+
+/// Rooms in a vector, which one caller enters on behalf of every worker. So no other caller ever holds one: `try_enter`
+/// always answers the value.
+#[derive(Drop)]
+pub struct VecRooms<V: Vacant> {
+    // Where a room is held, a vacant value stands in its place.
+    values: Vec<V>,
+    history: History<V>,
+    alloc: Global,
+}
+
+impl<V: Vacant> Model for VecRooms<V> {
+    ghost use Rattle.rooms.specs.Visits.{Visits, visits_code, view_of, AreKept};
+    ghost use Rattle.rooms.specs.Histories.{visits_of};
+
+    ghost Value = { Visits V };
+
+    ghost coded = { visits_code V.code };
+
+    ghost view = { λ rooms. visits_of rooms.history };
+
+    ghost invariant = { λ rooms. AreKept V.told (view_of V.told (visits_of rooms.history)) rooms.values.items };
+}
+
+impl<V: Vacant> VecRooms<V> {
+    /// Rooms with these values, none of them held. It takes no memory.
+    pub fn new(alloc: Global, values: Vec<V>) -> VecRooms<V>
+        requires rooms { AreGatesAndBook (map V.told values.items) }
+        requires few { length values.items < 2 ^ 32 }
+        ensures { result ≡ record { values = values.items; moves = [] } }
+    {
+        let history = History::new(&values);
+        VecRooms {
+            values,
+            history,
+            alloc,
+        }
+    }
+
+    /// The values as they are, the book last.
+    pub fn into_values(self) -> Vec<V>
+        requires { (room : ℕ) → is_held (view_of V.told self) room ≡ false }
+        ensures { (room : ℕ) → slice_get result.items room ≡ (view_of V.told self).told room }
+    {
+        self.values
+    }
+}
+
+impl<V: Vacant> Rooms<V> for VecRooms<V> {
+    ghost use Rattle.rooms.specs.Visits.{view_of};
+
+    ghost view = { λ rooms. view_of V.told rooms };
+
+    ghost loan = { λ _. 0 };
+
+    fn book(&self) -> Room {
+        (self.values.len() - 1) as u32
+    }
+
+    fn try_enter(&mut self, room: Room) -> Option<V> {
+        let vacant = V::vacant(self.alloc);
+        let value = mem::replace(&mut self.values[room as usize], vacant);
+        self.history = self.history.and_entered(room, &value);
+        Some(value)
+    }
+
+    fn leave(&mut self, room: Room, value: V) {
+        self.history = self.history.and_left(room, &value);
+        self.values[room as usize] = value;
+    }
+}
