@@ -1,4 +1,4 @@
-ghost use Rattle.std.specs.Prelude.{◌≡◌, ◌<◌, ◌^◌, ℕ, true, false, [], length, map, slice_get};
+ghost use Rattle.std.specs.Prelude.{◌≡◌, ◌<◌, ◌^◌, ℕ, true, false, [], length, map, slice_get, slice_set, Some};
 ghost use Rattle.rooms.specs.RoomsViews.{is_held};
 ghost use Rattle.rooms.specs.Visits.{AreGatesAndBook, view_of};
 
@@ -34,6 +34,9 @@ impl<V: Vacant> Model for VecRooms<V> {
 }
 
 impl<V: Vacant> VecRooms<V> {
+    ghost use Rattle.std.specs.Prelude.{◌∷◌, ◌≤◌};
+    ghost use Rattle.rooms.specs.HandedOut.{IsHandedOut, MayBeLeft};
+
     /// Rooms with these values, none of them held. It takes no memory.
     pub fn new(alloc: Global, values: Vec<V>) -> VecRooms<V>
         requires rooms { AreGatesAndBook (map V.told values.items) }
@@ -55,6 +58,43 @@ impl<V: Vacant> VecRooms<V> {
     {
         self.values
     }
+
+    fn hand_out(&mut self, room: Room) -> V
+        requires in_range { room ≤ (view_of V.told self.old).book }
+        requires free { is_held (view_of V.told self.old) room ≡ false }
+        ensures value { IsHandedOut V.told (view_of V.told self.old) room result }
+        ensures moved { self.new ≡ record self.old { moves = record { was_left = false; room = room; value = result } ∷ self.old.moves } }
+    {
+        let vacant = V::vacant(self.alloc);
+        let value = exchange(&mut self.values, room, vacant);
+        self.history = self.history.and_entered(room, &value);
+        value
+    }
+
+    fn take_back(&mut self, room: Room, value: V)
+        requires held { is_held (view_of V.told self.old) room ≡ true }
+        requires value { MayBeLeft (view_of V.told self.old) room (V.told value) }
+        ensures { self.new ≡ record self.old { moves = record { was_left = true; room = room; value = value } ∷ self.old.moves } }
+    {
+        self.history = self.history.and_left(room, &value);
+        put_at(&mut self.values, room, value);
+    }
+}
+
+// The value at a place, where another one stands then.
+fn exchange<V: Drop>(values: &mut Vec<V>, room: Room, value: V) -> V
+    requires { room < length values.old.items }
+    ensures value { slice_get values.old.items room ≡ Some result }
+    ensures put { values.new.items ≡ slice_set values.old.items room value }
+{
+    mem::replace(&mut values[room as usize], value)
+}
+
+fn put_at<V: Drop>(values: &mut Vec<V>, room: Room, value: V)
+    requires { room < length values.old.items }
+    ensures { values.new.items ≡ slice_set values.old.items room value }
+{
+    values[room as usize] = value;
 }
 
 impl<V: Vacant> Rooms<V> for VecRooms<V> {
@@ -69,14 +109,10 @@ impl<V: Vacant> Rooms<V> for VecRooms<V> {
     }
 
     fn try_enter(&mut self, room: Room) -> Option<V> {
-        let vacant = V::vacant(self.alloc);
-        let value = mem::replace(&mut self.values[room as usize], vacant);
-        self.history = self.history.and_entered(room, &value);
-        Some(value)
+        Some(self.hand_out(room))
     }
 
     fn leave(&mut self, room: Room, value: V) {
-        self.history = self.history.and_left(room, &value);
-        self.values[room as usize] = value;
+        self.take_back(room, value);
     }
 }

@@ -1,13 +1,12 @@
 -- Rooms in a vector are kept where one is entered.
-use Rattle.std.specs.Prelude.{◌≡◌, ℕ, ◌+◌, ◌≤◌, Bool, true, false, ◌==◌, if◌then◌else◌, Option, Some, None, List, length, slice_get, slice_set, is_some, refl}
+use Rattle.std.specs.Prelude.{◌≡◌, ℕ, ◌+◌, ◌≤◌, Bool, true, false, ◌==◌, if◌then◌else◌, Option, Some, None, List, ◌∷◌, slice_get, slice_set, is_some, refl}
 use Rattle.std.specs.Option.{option_map}
-use Rattle.std.proofs.Common.{sym, ◌∙◌, ap, subst, arith, get_or}
-use Rattle.std.proofs.lemmas.Option.{slice_get_read}
+use Rattle.std.proofs.Common.{sym, ◌∙◌, ap, subst}
 use Rattle.std.proofs.lemmas.List.{length-set}
 use Rattle.gx_base.specs.RoomViews.{RoomView, is_book}
 use Rattle.rooms.specs.RoomsViews.{RoomsView, is_held, holds_book, commits_entered, commits_in, nowhere, entered}
 use Rattle.rooms.specs.HandedOut.{IsTold, IsHandedOut}
-use Rattle.rooms.specs.Visits.{count_in, count_of, AreKept}
+use Rattle.rooms.specs.Visits.{Visits, count_in, count_of, view_of, AreKept}
 use Rattle.rooms.proofs.puts.Putting.{no_bool, numbers_equal, numbers_differ, get_other}
 
 module _ {V : Type 0} (tells : V → RoomView) (view : RoomsView V) (values : List V) (k : AreKept tells view values) where
@@ -73,16 +72,25 @@ module _ {V : Type 0} (tells : V → RoomView) (view : RoomsView V) (values : Li
       released = λ q. released_by q (room == view.book) refl;
     }
 
--- the same where the value stands in the vector
-told_there : {V : Type 0} (tells : V → RoomView) (view : RoomsView V) (values : List V) (room : ℕ) (value : V) → AreKept tells view values → room ≤ view.book → is_held view room ≡ false → value ≡ get_or values room value → view.told room ≡ Some value
-told_there tells view values room value k in_range free is =
-    k.home room free ∙ slice_get_read values (length values) room value refl (let n : length values ≡ view.book + 1 = k.size in omega arith) is
+-- ---- with the moves since the rooms were made
 
-pub handed_out : {V : Type 0} (tells : V → RoomView) (view : RoomsView V) (values : List V) (room : ℕ) (value : V) → AreKept tells view values → room ≤ view.book → is_held view room ≡ false → value ≡ get_or values room value → IsHandedOut tells view room value
-handed_out tells view values room value k in_range free is =
-    value_handed_out tells view values k room value free (told_there tells view values room value k in_range free is)
+module _ {V : Type 0} (tells : V → RoomView) (before now : Visits V) (same : before ≡ now) (values : List V) (room : ℕ) (value : V) (k : AreKept tells (view_of tells before) values)
+    (in_range : room ≤ (view_of tells now).book) (free : is_held (view_of tells now) room ≡ false) (is : slice_get values room ≡ Some value) where
+  in_range_before : room ≤ (view_of tells before).book
+  in_range_before = subst (λ visits. room ≤ (view_of tells visits).book) (sym same) in_range
 
-pub handed_out_kept : {V : Type 0} (tells : V → RoomView) (view : RoomsView V) (values : List V) (room : ℕ) (value vacant : V) → AreKept tells view values → room ≤ view.book → is_held view room ≡ false → value ≡ get_or values room value
-    → AreKept tells (entered view room (tells value)) (slice_set values room vacant)
-handed_out_kept tells view values room value vacant k in_range free is =
-    entered_kept tells view values k room value free (told_there tells view values room value k in_range free is) vacant in_range
+  free_before : is_held (view_of tells before) room ≡ false
+  free_before = subst (λ visits. is_held (view_of tells visits) room ≡ false) (sym same) free
+
+  told_before : (view_of tells before).told room ≡ Some value
+  told_before = k.home room free_before ∙ is
+
+  -- the value in the vector is what the rooms may hand out
+  pub value_may_go : IsHandedOut tells (view_of tells now) room value
+  value_may_go = subst (λ visits. IsHandedOut tells (view_of tells visits) room value) same (value_handed_out tells (view_of tells before) values k room value free_before told_before)
+
+  -- and the rooms are kept then, whatever stands in its place
+  pub hand_out_kept : (vacant : V) (after : Visits V) (values_after : List V) → after ≡ record before { moves = record { was_left = false; room = room; value = value } ∷ before.moves } → values_after ≡ slice_set values room vacant → AreKept tells (view_of tells after) values_after
+  hand_out_kept vacant after values_after moved put =
+      subst (λ visits. AreKept tells (view_of tells visits) values_after) (sym moved)
+      (subst (λ vs. AreKept tells (entered (view_of tells before) room (tells value)) vs) (sym put) (entered_kept tells (view_of tells before) values k room value free_before told_before vacant in_range_before))

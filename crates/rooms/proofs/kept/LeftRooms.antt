@@ -1,5 +1,5 @@
 -- Rooms in a vector are kept where one is left.
-use Rattle.std.specs.Prelude.{◌≡◌, ℕ, ◌+◌, ◌<◌, ◌≤◌, Bool, true, false, ◌==◌, ◌&&◌, if◌then◌else◌, Option, Some, None, List, length, slice_get, slice_set, is_some, refl}
+use Rattle.std.specs.Prelude.{◌≡◌, ℕ, ◌+◌, ◌<◌, ◌≤◌, Bool, true, false, ◌==◌, ◌&&◌, if◌then◌else◌, Option, Some, None, List, ◌∷◌, length, slice_get, slice_set, is_some, refl}
 use Rattle.std.specs.Option.{option_map}
 use Rattle.std.proofs.Common.{sym, ◌∙◌, ap, subst, arith, inl, inr}
 use Rattle.std.proofs.lemmas.List.{length-set}
@@ -8,7 +8,7 @@ use Rattle.gx_base.specs.Replays.{put}
 use Rattle.gx_base.specs.RoomViews.{RoomView, is_book}
 use Rattle.rooms.specs.RoomsViews.{RoomsView, is_held, holds_book, mark_in, mark_entered, commits_entered, entries_for, nowhere, is_release, told_with, left}
 use Rattle.rooms.specs.HandedOut.{Suits, MayHaveMark, MayBeLeft}
-use Rattle.rooms.specs.Visits.{count_in, count_of, AreKept}
+use Rattle.rooms.specs.Visits.{Visits, count_in, count_of, view_of, AreKept}
 use Rattle.rooms.proofs.puts.Putting.{no_bool, numbers_equal, numbers_differ, get_set, get_other}
 use Rattle.rooms.proofs.kept.EnteredRooms.{entered_commits}
 
@@ -129,7 +129,7 @@ module _ {V : Type 0} (tells : V → RoomView) (view : RoomsView V) (values : Li
   released_by q false true f h = both_left (holds_book view) (mark == commits_entered view + 1) f
   released_by q false false f h = k.released q h
 
-  pub left_kept : AreKept tells (left tells view room value) (slice_set values room value)
+  left_kept : AreKept tells (left tells view room value) (slice_set values room value)
   left_kept = record {
     size = length-set values room value ∙ k.size;
     limit = k.limit;
@@ -141,3 +141,14 @@ module _ {V : Type 0} (tells : V → RoomView) (view : RoomsView V) (values : Li
     marks = λ q other. marks_by q other (room == view.book) (is_release view mark) refl refl;
     released = λ q. released_by q (room == view.book) (is_release view mark) refl;
   }
+
+-- ---- with the moves since the rooms were made
+
+pub take_back_kept : {V : Type 0} (tells : V → RoomView) (before now after : Visits V) (values values_after : List V) (room : ℕ) (value : V) → before ≡ now → AreKept tells (view_of tells before) values
+    → is_held (view_of tells now) room ≡ true → MayBeLeft (view_of tells now) room (tells value)
+    → after ≡ record before { moves = record { was_left = true; room = room; value = value } ∷ before.moves } → values_after ≡ slice_set values room value → AreKept tells (view_of tells after) values_after
+take_back_kept tells before now after values values_after room value same k held may moved put =
+    subst (λ visits. AreKept tells (view_of tells visits) values_after) (sym moved)
+    (subst (λ vs. AreKept tells (left tells (view_of tells before) room value) vs) (sym put)
+    (left_kept tells (view_of tells before) values k room value
+    (subst (λ visits. is_held (view_of tells visits) room ≡ true) (sym same) held) (subst (λ visits. MayBeLeft (view_of tells visits) room (tells value)) (sym same) may)))
