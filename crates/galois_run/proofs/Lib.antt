@@ -1,2 +1,3 @@
 pub mod meanings
 pub mod refusals
+pub mod run_options

@@ -1,4 +1,5 @@
 pub mod Statuses
+pub mod RunOptions
 pub mod Words
 pub mod Inputs
 pub mod CommandMeaning
