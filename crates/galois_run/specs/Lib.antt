@@ -1,5 +1,6 @@
 pub mod Statuses
 pub mod RunOptions
+pub mod RunTables
 pub mod Words
 pub mod Inputs
 pub mod CommandMeaning

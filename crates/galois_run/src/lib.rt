@@ -10,6 +10,7 @@ mod inputs;
 mod options;
 mod run;
 mod run_faults;
+mod run_tables;
 mod status;
 mod words;
 
