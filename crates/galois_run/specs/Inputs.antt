@@ -1,5 +1,5 @@
 -- What the files of a plan hold.
-use Rattle.std.specs.Prelude.{◌≡◌, ◌⊎◌, ℕ, ◌<◌, ◌≤◌, List, [], length, Option, Some, None, IfSome, IsSomeAnd, unwrap_or}
+use Rattle.std.specs.Prelude.{◌≡◌, ◌⊎◌, ℕ, ◌<◌, ◌≤◌, List, [], length, Option, Some, None, option_map, IfSome, IsSomeAnd, unwrap_or}
 use Rattle.gx_base.specs.declared.inputs.What.{What}
 use Rattle.gx_base.specs.declared.inputs.What.TheVariants.{File}
 use Rattle.galois_run.specs.declared.inputs.InputFiles.{InputFiles}
@@ -17,7 +17,7 @@ main_of inputs = unwrap_or inputs.main []
 
 -- what was read
 abbrev pub inputs_in : InputFiles → Inputs
-inputs_in read = record { main = Some read.main.items; conditions = None; second = None }
+inputs_in read = record { main = option_map (λ file. file.items) read.main; conditions = None; second = None }
 
 -- ---- what files hold
 

@@ -1,5 +1,6 @@
-//! The commands, each in a file of its own: from the inputs to the bytes of a report.
+//! The commands: from the inputs to the bytes of a report.
 
+pub mod about;
 pub mod classify;
 pub mod flow;
 
@@ -11,6 +12,7 @@ ghost use Rattle.galois_run.specs.Words.{planned};
 use crate::inputs::InputFiles;
 use crate::run_faults::RunFault;
 use crate::words::{Command, Plan};
+use about::{report_help, report_version};
 use classify::report_classes;
 use flow::report_flow;
 use std::alloc::Global;
@@ -26,5 +28,7 @@ pub(crate) fn report_of(
     match plan.command() {
         Command::Flow => report_flow(alloc, inputs),
         Command::Classify => report_classes(alloc, inputs),
+        Command::Help => report_help(alloc),
+        Command::Version => report_version(alloc),
     }
 }

@@ -12,17 +12,21 @@ use std::alloc::Global;
 /// How many bytes a file may have.
 const MOST_BYTES: u64 = 67_108_864;
 
-/// The bytes of a plan's files.
+/// The bytes of a plan's files, each where the plan names one.
 #[derive(Drop)]
 pub(crate) struct InputFiles {
-    main: Vec<u8>,
+    main: Option<Vec<u8>>,
 }
 
 impl InputFiles {
+    /// The bytes of the main file, and none where the plan names no file.
     pub(crate) fn main(&self) -> &[u8]
         ensures { result.now ≡ main_of (inputs_in self.now) }
     {
-        &self.main
+        match &self.main {
+            Some(bytes) => bytes,
+            None => &[],
+        }
     }
 }
 
@@ -38,6 +42,9 @@ pub(crate) fn read_inputs<F: Files>(
     ensures holds { F.holds files.new ≡ F.holds files.old }
     ensures counts { Counts (F.faults files.old) (F.faults files.new) (result ≡ Err WholeRefuse.Failed) (result ≢ Err WholeRefuse.Failed) }
 {
-    let main = read_whole(alloc, files, plan.file(), MOST_BYTES)?;
+    let main = match plan.file() {
+        Some(name) => Some(read_whole(alloc, files, name, MOST_BYTES)?),
+        None => None,
+    };
     Ok(InputFiles { main })
 }

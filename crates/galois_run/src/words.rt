@@ -1,6 +1,6 @@
-ghost use Rattle.std.specs.Prelude.{◌≡◌, ◌↔◌, ℕ, List, None, Some, IsErrOf, IfOk, map, string_bytes};
+ghost use Rattle.std.specs.Prelude.{◌≡◌, ◌↔◌, ℕ, List, [], ◌∷◌, None, Some, IsErrOf, IfOk, map, string_bytes};
 ghost use Rattle.galois_run.specs.declared.words.WordsFault.TheVariants.{NoMemory};
-ghost use Rattle.galois_run.specs.Words.{command_of, is_plain, IsPlanned, plan_of};
+ghost use Rattle.galois_run.specs.Words.{command_of, lone_command, is_plain, IsPlanned, plan_of};
 
 use std::alloc::{AllocError, Global};
 
@@ -11,13 +11,17 @@ pub enum Command {
     Flow,
     /// Tells the classes of a table's rows.
     Classify,
+    /// Tells how the program is called.
+    Help,
+    /// Tells the program's name and version.
+    Version,
 }
 
 /// The words of a command line, understood.
 #[derive(Debug, Drop)]
 pub struct Plan {
     command: Command,
-    file: String,
+    file: Option<String>,
 }
 
 /// Why words are refused.
@@ -45,6 +49,17 @@ fn command_named(word: &str) -> Option<Command>
     }
 }
 
+/// The command of a word that stands alone.
+fn lone_command(word: &str) -> Option<Command>
+    ensures { result ≡ lone_command word.now }
+{
+    match word {
+        "--help" => Some(Command::Help),
+        "--version" => Some(Command::Version),
+        _ => None,
+    }
+}
+
 fn is_plain(word: &str) -> bool
     ensures { result ≡ is_plain word.now }
 {
@@ -56,20 +71,47 @@ pub fn read_words(alloc: Global, words: &[String]) -> Result<Plan, WordsFault>
     ensures planned { IfOk result (IsPlanned (plan_of (map string_bytes words.now))) }
     ensures usage { IsErrOf result WordsFault.Usage ↔ (plan_of (map string_bytes words.now) ≡ None) }
 {
-    let [word, file] = words else {
+    match words {
+        [word] => plan_alone(word.as_str()),
+        [word, file] => plan_on_file(alloc, word.as_str(), file.as_str()),
+        _ => Err(WordsFault::Usage),
+    }
+}
+
+/// Reads a word that stands alone.
+fn plan_alone(word: &str) -> Result<Plan, WordsFault>
+    ensures planned { IfOk result (IsPlanned (plan_of (word.now ∷ []))) }
+    ensures usage { IsErrOf result WordsFault.Usage ↔ (plan_of (word.now ∷ []) ≡ None) }
+{
+    match lone_command(word) {
+        Some(command) => Ok(Plan {
+            command,
+            file: None,
+        }),
+        None => Err(WordsFault::Usage),
+    }
+}
+
+/// Reads a command and the name of a file.
+fn plan_on_file(alloc: Global, word: &str, file: &str) -> Result<Plan, WordsFault>
+    ensures planned { IfOk result (IsPlanned (plan_of (word.now ∷ file.now ∷ []))) }
+    ensures usage { IsErrOf result WordsFault.Usage ↔ (plan_of (word.now ∷ file.now ∷ []) ≡ None) }
+{
+    let Some(command) = command_named(word) else {
         return Err(WordsFault::Usage);
     };
-    let Some(command) = command_named(word.as_str()) else {
-        return Err(WordsFault::Usage);
-    };
-    if !is_plain(file.as_str()) {
+    if !is_plain(file) {
         return Err(WordsFault::Usage);
     }
-    let file = file.clone()?;
-    Ok(Plan { command, file })
+    let file = String::from_str(alloc, file)?;
+    Ok(Plan {
+        command,
+        file: Some(file),
+    })
 }
 
 impl Plan {
+    ghost use Rattle.std.specs.Prelude.{option_map};
     ghost use Rattle.galois_run.specs.Words.{Planned, planned};
 
     pub fn command(&self) -> Command
@@ -78,10 +120,13 @@ impl Plan {
         self.command
     }
 
-    /// The name of the command's main file.
-    pub fn file(&self) -> &str
-        ensures { (planned self.now).main ≡ Some result.now }
+    /// The name of the command's main file, where it reads one.
+    pub fn file(&self) -> Option<&str>
+        ensures { option_map (λ name. name.now) result ≡ (planned self.now).main }
     {
-        self.file.as_str()
+        match &self.file {
+            Some(name) => Some(name.as_str()),
+            None => None,
+        }
     }
 }

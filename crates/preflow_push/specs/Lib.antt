@@ -13,3 +13,4 @@ pub mod FlowStates
 pub mod FlowReports
 pub mod Starts
 pub mod StartLaw
+pub mod OrderLaw

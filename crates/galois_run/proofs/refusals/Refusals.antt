@@ -1,5 +1,5 @@
 -- From the making of a report and its writing to the status.
-use Rattle.std.proofs.Common.{◌≡◌, ◌≢◌, inl, inr, ℕ, true, List, Option, Some, None, IfSome, IsSomeAnd, Ok, Err, Vec, refl, subst, arith}
+use Rattle.std.proofs.Common.{◌≡◌, ◌≢◌, inl, inr, ℕ, true, List, Option, Some, None, IfSome, IsSomeAnd, Result, Ok, Err, Vec, refl, ap, subst, arith}
 use Rattle.std.specs.Global.{Global}
 use Rattle.gx_base.specs.declared.inputs.What.{What}
 use Rattle.gx_base.specs.declared.inputs.What.TheVariants.{File, Nodes, Arcs, Points, Nets, Horizon, Size}
@@ -10,7 +10,7 @@ use Rattle.galois_run.specs.declared.run_faults.RunFault.TheVariants.{BadInput, 
 use Rattle.galois_run.specs.declared.status.Status.{Status}
 use Rattle.galois_run.specs.declared.status.Status.TheVariants as statuses
 use Rattle.galois_run.specs.declared.words.Command.{Command}
-use Rattle.galois_run.specs.declared.words.Command.TheVariants.{Flow, Classify}
+use Rattle.galois_run.specs.declared.words.Command.TheVariants.{Flow, Classify, Help, Version}
 use Rattle.galois_run.specs.CommandMeanings.{meaning_by}
 use Rattle.galois_run.specs.Inputs.{Inputs, IsWithinLength, IsTooLong, AreWithin, HasTooLong}
 use Rattle.galois_run.specs.CommandMeaning.{CommandMeaning}
@@ -55,6 +55,53 @@ pub report_by_held : (command : Command) (held : Option Inputs) (read : Inputs) 
     → Answers (meaning_by command) read (Ok text) → IfSome held (λ inputs. IsCaused (meaning_by command) inputs statuses.Ok)
 report_by_held command held read text same within answers = at_inputs held read _ same (report_caused command read text within answers)
 
+-- ---- where none is made, there is a cause for the refusal
+
+same_fault : (told fault : RunFault) → status_of_fault told ≡ status_of_fault fault → told ≡ fault
+same_fault (BadInput k) (BadInput line) e = ap BadInput (let same : k ≡ line = cc in same)
+same_fault (BadInput k) (TooLarge what) e = absurd (cc)
+same_fault (BadInput k) Spent e = absurd (cc)
+same_fault (BadInput k) NoMemory e = absurd (cc)
+same_fault (TooLarge w) (BadInput line) e = absurd (cc)
+same_fault (TooLarge w) (TooLarge what) e = ap TooLarge (let same : w ≡ what = cc in same)
+same_fault (TooLarge w) Spent e = absurd (cc)
+same_fault (TooLarge w) NoMemory e = absurd (cc)
+same_fault Spent (BadInput line) e = absurd (cc)
+same_fault Spent (TooLarge what) e = absurd (cc)
+same_fault Spent Spent e = refl
+same_fault Spent NoMemory e = absurd (cc)
+same_fault NoMemory (BadInput line) e = absurd (cc)
+same_fault NoMemory (TooLarge what) e = absurd (cc)
+same_fault NoMemory Spent e = absurd (cc)
+same_fault NoMemory NoMemory e = refl
+
+status_by : {A : Type 0} (told fault : RunFault) (result : Result A RunFault) → result ≡ Err told → result ≡ Err fault → status_of_fault told ≡ status_of_fault fault
+status_by told fault result d e = ap status_of_fault (let same : told ≡ fault = cc in same)
+
+answer_by : {A : Type 0} (told fault : RunFault) (result : Result A RunFault) → result ≡ Err told → told ≡ fault → result ≡ Err fault
+answer_by told fault result d e = cc
+
+comes : {A cause wide : Type 0} (told fault : RunFault) (result : Result A RunFault) → result ≡ Err told → (wide → cause) → (cause → wide) → FaultsWhere cause fault result → ComesWhere wide (status_of_fault fault) (status_of_fault told)
+comes told fault result is down up exact = record {
+  only = λ e. up (exact.only (answer_by told fault result is (same_fault told fault e)));
+  always = λ h. elim (exact.always (down h)) [ inl e ↦ inl (status_by told fault result is e) | inr e ↦ inr (inr (status_by told NoMemory result is e)) ];
+}
+
+past_limit : (meaning : CommandMeaning) (inputs : Inputs) (what : What) → AreWithin inputs → PassesLimit meaning inputs what → meaning.too_large inputs what
+past_limit meaning inputs what within (inl passed) = absurd (not_too_long inputs within passed.1)
+past_limit meaning inputs what within (inr passed) = passed.1
+
+refusal_caused : (command : Command) (inputs : Inputs) (told : RunFault) (result : Result (Vec ℕ Global) RunFault) → result ≡ Err told → AreWithin inputs → Answers (meaning_by command) inputs result → IsCaused (meaning_by command) inputs (status_of_fault told)
+refusal_caused command inputs told result is within answers = record {
+  too_large = λ what. comes told (TooLarge what) result is (past_limit (meaning_by command) inputs what within) (λ l. inr (within, l)) (answers.too_large what);
+  bad_input = λ line. comes told (BadInput line) result is (λ m. m.1) (λ m. (within, m)) (answers.malformed line);
+  spent = comes told Spent result is (λ m. m.1) (λ m. (within, m)) answers.unfinished;
+}
+
+pub refusal_by_held : (command : Command) (held : Option Inputs) (read : Inputs) (told : RunFault) → IfSome held (λ inputs. read ≡ inputs) → AreWithin read
+    → Answers (meaning_by command) read (Err told) → IfSome held (λ inputs. IsCaused (meaning_by command) inputs (status_of_fault told))
+refusal_by_held command held read told same within answers = at_inputs held read _ same (refusal_caused command read told (Err told) refl within answers)
+
 -- ---- nor is there one where it is written
 
 no_cause : {cause : Type 0} (is : Status) → statuses.Ok ≢ is → ComesWhere cause is statuses.Ok → cause → ⊥
@@ -98,14 +145,20 @@ passed_limit net Size p = absurd p
 line_told : (command : Command) (inputs : Inputs) (line : ℕ) → (meaning_by command).malformed inputs line → (meaning_by command).lines line
 line_told Flow inputs line m = m.from_one
 line_told Classify inputs line m = m.is_first.from_one
+line_told Help inputs line m = m
+line_told Version inputs line m = m
 
 limit_told : (command : Command) (inputs : Inputs) (what : What) → (meaning_by command).too_large inputs what → (meaning_by command).limits what
 limit_told Flow inputs what l = passed_limit l.net what l.passes
 limit_told Classify inputs what l = absurd l
+limit_told Help inputs what l = l
+limit_told Version inputs what l = l
 
 run_on_told : (command : Command) (inputs : Inputs) → (meaning_by command).unfinished inputs → (meaning_by command).runs_on
 run_on_told Flow inputs u = tt
 run_on_told Classify inputs u = u
+run_on_told Help inputs u = u
+run_on_told Version inputs u = u
 
 pub fault_told : (command : Command) (inputs : Inputs) (fault : RunFault) → Answers (meaning_by command) inputs (Err fault) → IsAnswer (meaning_by command) (status_of_fault fault)
 fault_told command inputs (BadInput line) answers = line_told command inputs line ((answers.malformed line).only refl)

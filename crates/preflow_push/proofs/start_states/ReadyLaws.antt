@@ -1,22 +1,21 @@
 -- Which items are ready at the start, and that the sums of a network that is read don't wrap.
-use Rattle.std.specs.Prelude.{◌≡◌, ◌≢◌, ◌↔◌, ℕ, zero, suc, ◌+◌, ◌*◌, ◌<◌, ◌≤◌, ◌^◌, ℤ, pos, ◌+ℤ◌, ◌-ℤ◌, neg_ℤ, ◌≤ℤ◌, ◌<ℤ◌, Bool, true, false, not, ◌&&◌, ◌||◌, if◌then◌else◌, List, [], ◌∷◌, length, map, Contains, FitsSigned, int_lt, int_le, refl}
+use Rattle.std.specs.Prelude.{◌≡◌, ◌≢◌, ℕ, zero, suc, ◌+◌, ◌*◌, ◌<◌, ◌≤◌, ◌^◌, ℤ, pos, ◌+ℤ◌, ◌-ℤ◌, neg_ℤ, ◌≤ℤ◌, ◌<ℤ◌, Bool, true, false, not, ◌&&◌, ◌||◌, if◌then◌else◌, List, [], ◌∷◌, length, map, Contains, FitsSigned, int_lt, int_le, refl}
 use Rattle.std.proofs.Common.{sym, ◌∙◌, ap, subst, arith}
 use Rattle.std.proofs.lemmas.Bool.{and_parts}
 use Rattle.std.proofs.lemmas.Int.{ints, int_wrap_fits}
 use Rattle.std.proofs.lemmas.Map.Views.{any-filter_same}
 use Rattle.std.specs.Cmp.{signed_Decides}
-use Rattle.std.specs.Int.{w64, int_wrap}
+use Rattle.std.specs.Int.{w64}
 use Rattle.std.specs.List.{list_any, filter, AllByRecursion}
 use Rattle.std.specs.Ordering.{int_eq}
 use Rattle.gx_base.specs.declared.items.Item.{Item}
-use Rattle.gx_base.specs.States.{State}
 use Rattle.preflow_push.specs.declared.network.Arc.{Arc}
 use Rattle.preflow_push.specs.declared.flow_lines.Said.{Said}
 use Rattle.preflow_push.specs.declared.flow_lines.Said.TheVariants.{Nothing, Problem, Source, Sink, Arc as ArcLine, Wrong}
 use Rattle.preflow_push.specs.Networks.{Net}
 use Rattle.preflow_push.specs.Discharge.{node_item, is_node, is_terminal, terminals}
 use Rattle.preflow_push.specs.FlowFiles.{most_capacity, IsOf, IsFlowFile, arcs_of}
-use Rattle.preflow_push.specs.FlowLimits.{most_arcs, IsReadable}
+use Rattle.preflow_push.specs.FlowLimits.{IsReadable}
 use Rattle.preflow_push.specs.FlowStates.{excess_in, flow_in}
 use Rattle.preflow_push.specs.Starts.{is_active, nodes_to, start_states, start_ready}
 use Rattle.preflow_push.specs.StartLaw.{carried, AreCarried, brought, balance, IsOfExcess, IsStart}
@@ -116,12 +115,15 @@ ready_if net item o =
     let kept : is_active net (start_states net) q && is_node net.nodes q ≡ true = rw (source, sink, excess, first, last) refl in
     subst (Contains (start_ready net)) (sym o.is) (has_item (filter (is_active net (start_states net)) (nodes_to net.nodes)) q (kept_nodes net q ∙ kept))
 
+pub is_of_excess : (net : Net) (item : Item) → Contains (start_ready net) item → IsOfExcess net (start_states net) item
+is_of_excess net item c = of_excess net item (item_among (filter (is_active net (start_states net)) (nodes_to net.nodes)) item c)
+
 pub starts : (net : Net) → AllByRecursion (λ (arc : Arc). FitsSigned w64 arc.cap) net.arcs → IsStart net (start_states net) (start_ready net)
 starts net fits = record {
   heights = heights-start net;
   flows = flows-start net;
   excesses = λ node. excesses-start net node fits;
-  are_ready = λ item. (λ c. of_excess net item (item_among (filter (is_active net (start_states net)) (nodes_to net.nodes)) item c), ready_if net item);
+  are_ready = λ item. (is_of_excess net item, ready_if net item);
 }
 
 -- ---- sums that don't wrap

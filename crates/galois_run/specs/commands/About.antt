@@ -1,0 +1,58 @@
+-- What the words that stand alone write: texts, whatever else there is.
+use Rattle.std.specs.Prelude.{◌≡◌, ℕ, List, [], ◌∷◌, ◌++◌, codes}
+use Rattle.std.specs.List.{flat_map}
+use Rattle.galois_run.specs.CommandMeaning.{CommandMeaning}
+
+-- how the program is called, line by line
+abbrev pub help_lines : List (List ℕ)
+help_lines =
+    codes "usage: galois COMMAND WORDS [--name value]..."
+    ∷ codes ""
+    ∷ codes "Commands:"
+    ∷ codes "  flow FILE       run preflow-push on the network in FILE, and write the order of"
+    ∷ codes "                  the commits and the flow that they leave"
+    ∷ codes "  classify FILE   read the table of conditions in FILE, and write the class of"
+    ∷ codes "                  each of its rows"
+    ∷ codes "  --help          write this text"
+    ∷ codes "  --version       write the name and the version of the program"
+    ∷ codes ""
+    ∷ codes "No command has options yet."
+    ∷ codes ""
+    ∷ codes "FILE is a word that isn't empty and doesn't begin with --."
+    ∷ codes ""
+    ∷ codes "Statuses, each with its line on standard error:"
+    ∷ codes "  0   the output was written whole"
+    ∷ codes "  1   galois: usage: galois COMMAND WORDS [--name value]..."
+    ∷ codes "      the words are none of the above"
+    ∷ codes "  2   galois: line N: bad input"
+    ∷ codes "      FILE isn't of the command's form, and N is the line of its first fault"
+    ∷ codes "  3   galois: reading failed"
+    ∷ codes "  4   galois: writing failed"
+    ∷ codes "      some of the output may have been written"
+    ∷ codes "  5   galois: no memory"
+    ∷ codes "  6   galois: too large: WHAT"
+    ∷ codes "      the file, or its nodes or arcs, are more than may be"
+    ∷ codes "  7   galois: spent"
+    ∷ codes "      4194304 items have committed, and another is ready"
+    ∷ codes ""
+    ∷ codes "Example:"
+    ∷ codes "  galois flow examples/four-nodes.max"
+    ∷ []
+
+abbrev pub help_text : List ℕ
+help_text = flat_map (λ words. words ++ codes "\n") help_lines
+
+abbrev pub version_text : List ℕ
+version_text = codes "galois 0.1\n"
+
+-- a text is written, and nothing is read
+abbrev pub told_meaning : List ℕ → CommandMeaning
+told_meaning text = record {
+  reported = λ inputs report. report ≡ text;
+  malformed = λ inputs line. ⊥;
+  too_large = λ inputs what. ⊥;
+  unfinished = λ inputs. ⊥;
+  lines = λ line. ⊥;
+  limits = λ what. ⊥;
+  runs_on = ⊥;
+}

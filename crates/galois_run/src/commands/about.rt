@@ -1,0 +1,70 @@
+//! The words that stand alone: texts that are written whatever else there is.
+
+ghost use Rattle.std.specs.Prelude.{◌≡◌, ◌++◌, ◌∷◌, [], IfOk, OnOk, codes};
+ghost use Rattle.galois_run.specs.Inputs.{Inputs};
+ghost use Rattle.galois_run.specs.RunFaults.{Answers};
+ghost use Rattle.galois_run.specs.commands.About.{help_text, version_text, told_meaning};
+
+use crate::run_faults::RunFault;
+use std::alloc::{AllocError, Global};
+
+/// How the program is called.
+const HELP: &str = concat!(
+    "usage: galois COMMAND WORDS [--name value]...\n",
+    "\n",
+    "Commands:\n",
+    "  flow FILE       run preflow-push on the network in FILE, and write the order of\n",
+    "                  the commits and the flow that they leave\n",
+    "  classify FILE   read the table of conditions in FILE, and write the class of\n",
+    "                  each of its rows\n",
+    "  --help          write this text\n",
+    "  --version       write the name and the version of the program\n",
+    "\n",
+    "No command has options yet.\n",
+    "\n",
+    "FILE is a word that isn't empty and doesn't begin with --.\n",
+    "\n",
+    "Statuses, each with its line on standard error:\n",
+    "  0   the output was written whole\n",
+    "  1   galois: usage: galois COMMAND WORDS [--name value]...\n",
+    "      the words are none of the above\n",
+    "  2   galois: line N: bad input\n",
+    "      FILE isn't of the command's form, and N is the line of its first fault\n",
+    "  3   galois: reading failed\n",
+    "  4   galois: writing failed\n",
+    "      some of the output may have been written\n",
+    "  5   galois: no memory\n",
+    "  6   galois: too large: WHAT\n",
+    "      the file, or its nodes or arcs, are more than may be\n",
+    "  7   galois: spent\n",
+    "      4194304 items have committed, and another is ready\n",
+    "\n",
+    "Example:\n",
+    "  galois flow examples/four-nodes.max\n",
+);
+
+/// The name and the version of the program.
+const VERSION: &str = "galois 0.1\n";
+
+/// The text of `--help`.
+pub fn report_help(alloc: Global) -> Result<Vec<u8>, RunFault>
+    ensures { (inputs : Inputs) → Answers (told_meaning help_text) inputs result }
+{
+    text_report(alloc, HELP)
+}
+
+/// The text of `--version`.
+pub fn report_version(alloc: Global) -> Result<Vec<u8>, RunFault>
+    ensures { (inputs : Inputs) → Answers (told_meaning version_text) inputs result }
+{
+    text_report(alloc, VERSION)
+}
+
+fn text_report(alloc: Global, text: &str) -> Result<Vec<u8>, RunFault>
+    ensures { (inputs : Inputs) → Answers (told_meaning text.now) inputs result }
+{
+    match Vec::from_slice(alloc, text.as_bytes()) {
+        Ok(report) => Ok(report),
+        Err(_) => Err(RunFault::NoMemory),
+    }
+}

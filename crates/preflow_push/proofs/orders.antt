@@ -1,0 +1,4 @@
+pub mod ReportLines
+pub mod NodeOrders
+pub mod DischargePushes
+pub mod OrdersTold

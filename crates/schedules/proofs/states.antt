@@ -1,0 +1,3 @@
+pub mod AffineLaws
+pub mod Steps
+pub mod Turns
