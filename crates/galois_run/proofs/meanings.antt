@@ -1,3 +1,6 @@
 pub mod FlowRuns
 pub mod FlowAnswers
 pub mod ClassifyAnswers
+pub mod LimitedRuns
+pub mod NetworkRooms
+pub mod NetworkPlays

@@ -6,5 +6,6 @@ pub mod Inputs
 pub mod CommandMeaning
 pub mod commands
 pub mod CommandMeanings
+pub mod NetworkRuns
 pub mod RunFaults
 pub mod RunTurns

@@ -7,6 +7,7 @@
 
 mod commands;
 mod inputs;
+mod network_runs;
 mod options;
 mod run;
 mod run_faults;

@@ -19,6 +19,15 @@ pub struct RunOptions {
     pub told: bool,
 }
 
+/// Those without any option on the command line.
+pub(crate) const NO_OPTIONS: RunOptions = RunOptions {
+    workers: 1,
+    turns: 0,
+    seed: 0,
+    trace: false,
+    told: false,
+};
+
 /// The options that words are: names and values in turn, each name once. None where they aren't.
 pub(crate) fn read_options(words: &[String]) -> Option<RunOptions>
     ensures options { result ≡ options_of (map string_bytes words.now) }

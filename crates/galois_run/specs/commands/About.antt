@@ -1,5 +1,5 @@
 -- What the words that stand alone write: texts, whatever else there is.
-use Rattle.std.specs.Prelude.{◌≡◌, ℕ, List, [], ◌∷◌, ◌++◌, codes}
+use Rattle.std.specs.Prelude.{◌≡◌, ℕ, List, [], ◌∷◌, ◌++◌, codes, ⊤}
 use Rattle.std.specs.List.{flat_map}
 use Rattle.galois_run.specs.CommandMeaning.{CommandMeaning}
 
@@ -51,7 +51,8 @@ told_meaning text = record {
   reported = λ inputs report. report ≡ text;
   malformed = λ inputs line. ⊥;
   too_large = λ inputs what. ⊥;
-  unfinished = λ inputs. ⊥;
+  passes = λ inputs limit. ⊥;
+  ends = λ inputs. ⊤;
   lines = λ line. ⊥;
   limits = λ what. ⊥;
   runs_on = ⊥;
