@@ -26,12 +26,12 @@ module _ (op : Operator) where
   unfolding limit_of_alone
   once_alone m zero turns' a b p q = no_limit a p
   once_alone m (suc turns) zero a b p q = no_limit b q
-  once_alone m (suc turns) (suc turns') a b p q = by_ready (is_empty m.book.ready) p q
+  once_alone m (suc turns) (suc turns') a b p q = by_ready (once_alone (turn op m 0) turns turns' a b) (is_empty m.book.ready) p q
     where
-      by_ready : (empty : Bool) → (if empty then None else or_later (limit_in op m 0) (limit_of_alone op (turn op m 0) turns)) ≡ Some a
+      by_ready : (limit_of_alone op (turn op m 0) turns ≡ Some a → limit_of_alone op (turn op m 0) turns' ≡ Some b → a ≡ b) → (empty : Bool) → (if empty then None else or_later (limit_in op m 0) (limit_of_alone op (turn op m 0) turns)) ≡ Some a
           → (if empty then None else or_later (limit_in op m 0) (limit_of_alone op (turn op m 0) turns')) ≡ Some b → a ≡ b
-      by_ready true p q = no_limit a p
-      by_ready false p q = once_by (limit_in op m 0) _ _ a b (once_alone (turn op m 0) turns turns' a b) p q
+      by_ready later true p q = no_limit a p
+      by_ready later false p q = once_by (limit_in op m 0) _ _ a b later p q
 
   none_empty : (m : Machine) (turns : ℕ) (a : Limit) → is_empty m.book.ready ≡ true → limit_of_alone op m turns ≡ Some a → ⊥
   unfolding limit_of_alone
@@ -42,13 +42,13 @@ module _ (op : Operator) where
   unfolding limit_of_alone alone
   never_alone m zero turns' a n e p = none_empty m turns' a e p
   never_alone m (suc turns) zero a n e p = no_limit a p
-  never_alone m (suc turns) (suc turns') a n e p = by_ready (is_empty m.book.ready) n e p
+  never_alone m (suc turns) (suc turns') a n e p = by_ready (never_alone (turn op m 0) turns turns' a) (is_empty m.book.ready) n e p
     where
-      by_ready : (empty : Bool) → (if empty then None else or_later (limit_in op m 0) (limit_of_alone op (turn op m 0) turns)) ≡ None
+      by_ready : (limit_of_alone op (turn op m 0) turns ≡ None → is_empty (alone op (turn op m 0) turns).book.ready ≡ true → limit_of_alone op (turn op m 0) turns' ≡ Some a → ⊥) → (empty : Bool) → (if empty then None else or_later (limit_in op m 0) (limit_of_alone op (turn op m 0) turns)) ≡ None
           → is_empty (Machine.book (if empty then m else alone op (turn op m 0) turns)).ready ≡ true
           → (if empty then None else or_later (limit_in op m 0) (limit_of_alone op (turn op m 0) turns')) ≡ Some a → ⊥
-      by_ready true n e p = no_limit a p
-      by_ready false n e p = never_by (limit_in op m 0) _ _ a (λ n' p'. never_alone (turn op m 0) turns turns' a n' e p') n p
+      by_ready later true n e p = no_limit a p
+      by_ready later false n e p = never_by (limit_in op m 0) _ _ a (λ n' p'. later n' e p') n p
 
   pub once : (m : Machine) (workers : ℕ) (schedule : List ℕ) (turns turns' : ℕ) (a b : Limit) → limit_of_played op m workers schedule turns ≡ Some a → limit_of_played op m workers schedule turns' ≡ Some b → a ≡ b
   unfolding limit_of_played

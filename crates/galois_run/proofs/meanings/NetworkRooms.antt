@@ -237,7 +237,7 @@ is_report options net trace values order states lines text known s o l t =
       after = object_states m;
       serial = serial_from net known.table m known.empty_past p.ends (p.serial.whole p.ends);
       run = run;
-      is_run = record { table = known.table; is_table = known.is_table; turns = p.turns; is_run = refl; unlimited = p.unlimited };
+      is_run = record { table = known.table; is_table = known.is_table; turns = p.turns; is_run = refl; ends = none_ready m.book.ready p.ends; unlimited = p.unlimited };
       in_order = refl;
       is_report =
           t ∙ ap (λ (x : List ℕ). x ++ told trace) (l ∙ ap (λ (is : List Item). flow_report net is (in_rooms states)) items ∙ ap (λ (f : ℕ → State). flow_report net (order_of commits) f) ends)

@@ -61,12 +61,13 @@ abbrev pub limit_in : RunOptions → Net → RowMap → ℕ → Option Limit
 limit_in options net table turns =
     limit_of_played (discharge_operator net) (network_machine net table) options.workers (schedule_of options.seed options.workers options.turns) turns
 
--- this is the network's run by its schedule, and no commit of it passes a limit
+-- this is the network's run by its schedule, to its end, and no commit of it passes a limit
 pub record IsRunOf (options : RunOptions) (net : Net) (run : Run) : Type 0 where
   pub table : RowMap
   pub is_table : IsRunTable table
   pub turns : ℕ
   pub is_run : run ≡ run_of options net table turns
+  pub ends : run.machine.book.ready ≡ []
   pub unlimited : limit_in options net table turns ≡ None
 
 -- the first commit of the network's run that passes a limit passes this one

@@ -63,6 +63,8 @@ fn network_text(alloc: Global, options: RunOptions, net: &Network) -> Result<Vec
     ensures well_formed { (line : ℕ) → result ≡ Err (faults.BadInput line) → ⊥ }
     ensures small { (what : What) → result ≡ Err (faults.TooLarge what) → ⊥ }
 {
-    let played = run_network(alloc, options, net)?;
-    Ok(report_played(alloc, options, net, played)?)
+    match run_network(alloc, options, net) {
+        Ok(played) => Ok(report_played(alloc, options, net, played)?),
+        Err(fault) => Err(fault),
+    }
 }
