@@ -1,7 +1,11 @@
 pub mod RoomLists
 pub mod SessionViews
 pub mod Needs
-pub mod SharedTurns
 pub mod Places
+pub mod Visits
+pub mod Bodies
+pub mod SharedTurns
 pub mod Turns
 pub mod EventViews
+pub mod Plays
+pub mod PlayedTurns

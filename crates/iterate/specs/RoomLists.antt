@@ -1,5 +1,5 @@
 -- Lists of rooms, and the steps that are in them.
-use Rattle.std.specs.Prelude.{ℕ, Bool, true, false, ◌||◌, ◌==◌, if◌then◌else◌, List, [], ◌∷◌, filter}
+use Rattle.std.specs.Prelude.{ℕ, ◌<◌, ⊤, Bool, true, false, ◌||◌, ◌==◌, if◌then◌else◌, List, [], ◌∷◌, filter}
 use Rattle.std.specs.Ordering.{nat_cmp}
 use Rattle.std.specs.BTreeSet.{insert_key}
 use Rattle.gx_base.specs.declared.acts.Step.{Step}
@@ -29,3 +29,19 @@ on_from (x ∷ xs) room = if x == room then x ∷ xs else on_from xs room
 abbrev pub rest_of : List ℕ → List ℕ
 rest_of [] = []
 rest_of (x ∷ xs) = xs
+
+-- ---- rising numbers
+
+-- each is greater than this one
+abbrev pub AreAbove : ℕ → List ℕ → Type 0
+AreAbove x [] = ⊤
+AreAbove x (y ∷ ys) = (x < y) × AreAbove x ys
+
+abbrev pub AreRising : List ℕ → Type 0
+AreRising [] = ⊤
+AreRising (x ∷ xs) = AreAbove x xs × AreRising xs
+
+-- each is below this one
+abbrev pub AreBelow : ℕ → List ℕ → Type 0
+AreBelow n [] = ⊤
+AreBelow n (x ∷ xs) = (x < n) × AreBelow n xs

@@ -1,5 +1,5 @@
 -- What a turn of a session did and answered.
-use Rattle.std.specs.Prelude.{◌≡◌, ◌≢◌, ℕ, Bool, true, false, ◌==◌, Option, Some, None, List, length, is_some, Result, Ok, Err, ⊤}
+use Rattle.std.specs.Prelude.{◌≡◌, ◌≢◌, ℕ, ◌<◌, ◌≤◌, Bool, true, false, ◌==◌, Option, Some, None, List, length, is_some, Result, Ok, Err, ⊤}
 use Rattle.gx_base.specs.declared.calls.Call.{Call as CallOf}
 use Rattle.gx_base.specs.declared.acts.Entry.{Entry}
 use Rattle.gx_base.specs.Entries.{entries_by}
@@ -16,14 +16,13 @@ use Rattle.speculation.specs.Machines.{Place, entry_of, turn_at}
 use Rattle.speculation.specs.Sessions.{Phase, Idle, Running, Finished, Undoing}
 use Rattle.rooms.specs.HandedOut.{HasRisen}
 use Rattle.rooms.specs.RoomsViews.{RoomsView}
-use Rattle.rooms.specs.Values.{tells}
 use Rattle.rooms.specs.declared.values.Value.{Value}
 use Rattle.iterate.specs.declared.events.Event.{Event as CodeEvent}
 use Rattle.iterate.specs.declared.events.Event.TheVariants as code
 use Rattle.iterate.specs.declared.events.Stop.{Stop}
 use Rattle.iterate.specs.declared.events.Stop.TheVariants as stops
 use Rattle.iterate.specs.Needs.{gone_on, needs}
-use Rattle.iterate.specs.Places.{StandsOn}
+use Rattle.iterate.specs.Places.{gate_of, IfTold, IsFit, StandsOn}
 use Rattle.iterate.specs.SessionViews.{OpenCommit, SessionView}
 use Rattle.iterate.specs.SharedTurns.{Shared, shared_turn, stopped_at}
 
@@ -132,9 +131,9 @@ pub record AreSameRooms {T S : Type 0} (before after : RoomsView (Value T S)) (w
   pub book : after.book ≡ before.book
   pub ordered : after.ordered ≡ before.ordered
   pub acts_for : after.acts_for ≡ before.acts_for
-  pub telling : (room : ℕ) → is_some (after.told room) ≡ is_some (before.told room)
-  pub live : (room : ℕ) → OthersStay worker (before.live room) (after.live room)
-  pub live_told : (room : ℕ) (was now : Value T S) → before.told room ≡ Some was → after.told room ≡ Some now → OthersStay worker (tells was).live (tells now).live
+  pub telling : (room : ℕ) → room ≤ before.book → is_some (after.told room) ≡ is_some (before.told room)
+  pub live : (room : ℕ) → room < before.book → OthersStay worker (before.live room) (after.live room)
+  pub live_told : (room : ℕ) → room < before.book → IfTold (before.told room) (λ was. IfTold (after.told room) (λ now. OthersStay worker (gate_of was).live (gate_of now).live))
 
 -- A turn: on some place that the rooms and the session stand on before it, and one after it
 pub record HasTurned {T S : Type 0} (op : Operator) (rooms_before rooms_after : RoomsView (Value T S)) (before after : SessionView) (result : Result CodeEvent Stop) : Type 0 where
@@ -147,3 +146,8 @@ pub record HasTurned {T S : Type 0} (op : Operator) (rooms_before rooms_after : 
   pub answers : Answers op rooms_before.book before after p q lost result
   pub same_rooms : AreSameRooms rooms_before rooms_after before.worker
   pub same_worker : after.worker ≡ before.worker
+
+-- a turn after which the session is fit for the next one
+pub record TakesTurn {T S : Type 0} (op : Operator) (rooms_before rooms_after : RoomsView (Value T S)) (before after : SessionView) (result : Result CodeEvent Stop) : Type 0 where
+  pub has_turned : HasTurned op rooms_before rooms_after before after result
+  pub is_fit : IsFit op rooms_after after

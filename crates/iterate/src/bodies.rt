@@ -1,3 +1,8 @@
+ghost use Rattle.std.specs.Prelude.{◌≡◌, IfOk, OnErr};
+ghost use Rattle.iterate.specs.Bodies.{ComesTo, IsAskedIn, IsAtWork, HasGoneOn};
+ghost use Rattle.iterate.specs.Places.{IsAskedWithin};
+ghost use Rattle.iterate.specs.SessionViews.{core_of, asked_of};
+
 use crate::session::{Phase, Session};
 use commit_book::Operator;
 use gx_base::{Act, Call, Item, NoMemory, Reply, Room};
@@ -9,7 +14,10 @@ pub fn advance<O: Operator>(
     st: &mut O::St,
     last: Option<Reply>,
     pushes: &mut Vec<Item>,
-) -> Result<Option<(Room, Call)>, NoMemory> {
+) -> Result<Option<(Room, Call)>, NoMemory>
+    ensures ahead { IfOk result (λ asked. ComesTo (O.rest op.now) (O.rest op.now st.old last) pushes.old.items asked st.new pushes.new.items) }
+    ensures room { IfOk result (λ asked. IsAskedIn (O.room_count op.now) asked) }
+{
     let mut reply = last;
     loop {
         match op.next(st, reply) {
@@ -25,7 +33,13 @@ pub fn advance<O: Operator>(
 
 impl<O: Operator> Session<O> {
     // The call that the body asks next, or none at its end. The session is then asking that call, or finished.
-    pub(crate) fn ask_on(&mut self, op: &O) -> Result<Option<(Room, Call)>, NoMemory> {
+    pub(crate) fn ask_on(&mut self, op: &O) -> Result<Option<(Room, Call)>, NoMemory>
+        requires work { IsAtWork self.old.phase }
+        requires asked { IsAskedWithin (O.room_count op.now) (asked_of self.old.phase) }
+        ensures gone_on { IfOk result (λ asked. HasGoneOn (O.rest op.now) (core_of self.old) (core_of self.new) self.old.phase self.new.phase asked) }
+        ensures room { IfOk result (λ asked. IsAskedIn (O.room_count op.now) asked) }
+        ensures err { OnErr result (core_of self.new ≡ record (core_of self.old) { pushes = self.new.pushes.items }) }
+    {
         match mem::replace(&mut self.phase, Phase::Finished) {
             Phase::Running { mut st, last } => {
                 let asked = advance(op, &mut st, last, &mut self.pushes)?;

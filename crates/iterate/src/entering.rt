@@ -2,8 +2,9 @@ ghost use Rattle.std.specs.Prelude.{◌≡◌, ◌<◌, true, false, IfSome, IfN
 ghost use Rattle.gate_core.specs.Homes as gates;
 ghost use Rattle.commit_book.specs.Homes as books;
 ghost use Rattle.rooms.specs.RoomsViews.{is_held, entered, left};
-ghost use Rattle.rooms.specs.HandedOut.{IsHandedOut, IsLost, MayHaveMark, MayHaveCommits};
+ghost use Rattle.rooms.specs.HandedOut.{IsHandedOut, IsLost};
 ghost use Rattle.rooms.specs.Values.{tells};
+ghost use Rattle.iterate.specs.Visits.{MayLeaveGate, MayLeaveBook};
 ghost use Rattle.rooms.specs.declared.values.Value.TheVariants as values;
 
 use commit_book::Book;
@@ -36,9 +37,7 @@ pub fn leave_gate<R: Rooms<Value<T, S>>, T: SeqType, S: Screen<T>>(
     room: Room,
     gate: Gate<T, S>,
 )
-    requires in_range { room < (R.view rooms.old).book }
-    requires held { is_held (R.view rooms.old) room ≡ true }
-    requires mark { MayHaveMark (R.view rooms.old) room gate.mark }
+    requires { MayLeaveGate (R.view rooms.old) room gate.mark }
     ensures view { R.view rooms.new ≡ left tells (R.view rooms.old) room (values.Object gate) }
     ensures loan { R.loan rooms.new ≡ R.loan rooms.old }
 {
@@ -63,9 +62,7 @@ pub fn enter_book<R: Rooms<Value<T, S>>, T: SeqType, S: Screen<T>>(rooms: &mut R
 
 /// Puts the book in its room.
 pub fn leave_book<R: Rooms<Value<T, S>>, T: SeqType, S: Screen<T>>(rooms: &mut R, book: Book)
-    requires held { is_held (R.view rooms.old) (R.view rooms.old).book ≡ true }
-    requires ordered { book.ordered ≡ (R.view rooms.old).ordered }
-    requires commits { MayHaveCommits (R.view rooms.old) book.commits }
+    requires { MayLeaveBook (R.view rooms.old) book }
     ensures view { R.view rooms.new ≡ left tells (R.view rooms.old) (R.view rooms.old).book (values.Book book) }
     ensures loan { R.loan rooms.new ≡ R.loan rooms.old }
 {

@@ -1,6 +1,7 @@
-ghost use Rattle.std.specs.Prelude.{◌≡◌, [], None, false};
+ghost use Rattle.std.specs.Prelude.{◌≡◌, [], None, false, length};
 ghost use Rattle.commit_book.specs.SerialRuns.{operator_of};
 ghost use Rattle.iterate.specs.Places.{IsFit};
+ghost use Rattle.iterate.specs.PlayedTurns.{with_left_off};
 ghost use Rattle.iterate.specs.SessionViews.{view_of, begun_view, is_idle_view};
 ghost use Rattle.iterate.specs.Turns.{HasTurned};
 
@@ -85,6 +86,18 @@ impl<O: Operator> Session<O> {
         }
     }
 
+    /// The iteration, if it isn't over, has to take back its calls, whose number is the answer.
+    pub(crate) fn leave_off(&mut self) -> usize
+        requires { (op : O) → (view_of (O.rest op) self.old).opened ≡ None }
+        ensures view { (op : O) → view_of (O.rest op) self.new ≡ record (view_of (O.rest op) self.old) { at = with_left_off (view_of (O.rest op) self.old).at } }
+        ensures count { (op : O) → result ≡ length (view_of (O.rest op) self.old).at.outcome.steps }
+    {
+        if !self.is_idle() {
+            self.phase = Phase::Undoing;
+        }
+        self.log.len()
+    }
+
     /// One turn, which never waits: where it needs a room that another caller holds, it is `Busy`.
     pub fn turn<R: Rooms<Value<T, S>>, T: SeqType, S: Screen<T>>(
         &mut self,
@@ -97,12 +110,21 @@ impl<O: Operator> Session<O> {
         ensures fit { IsFit (operator_of O.Operator op.now) (R.view rooms.new) (view_of (O.rest op.now) self.new) }
         ensures loan { R.loan rooms.new ≡ R.loan rooms.old }
     {
-        match self.phase {
+        match mem::replace(&mut self.phase, Phase::Idle) {
             Phase::Idle => self.take(rooms, op),
-            Phase::Running { .. } | Phase::Asking { .. } => self.go(rooms, op),
-            Phase::Finished => self.finish(rooms),
-            Phase::Committing { .. } => self.release_on(rooms),
-            Phase::Undoing => Ok(self.undo(rooms)),
+            Phase::Finished => {
+                self.phase = Phase::Finished;
+                self.finish(rooms, op)
+            }
+            Phase::Committing { book, number, left } => Ok(self.release(rooms, op, book, number, left)),
+            Phase::Undoing => {
+                self.phase = Phase::Undoing;
+                Ok(self.undo(rooms, op))
+            }
+            working => {
+                self.phase = working;
+                self.go(rooms, op)
+            }
         }
     }
 }

@@ -1,3 +1,4 @@
 pub mod EnteredRooms
 pub mod FirstRooms
 pub mod LeftRooms
+pub mod ToldRooms

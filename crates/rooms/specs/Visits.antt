@@ -1,5 +1,5 @@
 -- Rooms in a vector: the values that they had at first, and what was handed out and left since.
-use Rattle.std.specs.Prelude.{◌≡◌, ℕ, ◌+◌, ◌-◌, ◌<◌, ◌≤◌, ◌^◌, Bool, true, false, if◌then◌else◌, Option, Some, None, List, [], ◌∷◌, length, slice_get, refl}
+use Rattle.std.specs.Prelude.{◌≡◌, ℕ, ◌+◌, ◌-◌, ◌<◌, ◌≤◌, ◌^◌, Bool, true, false, if◌then◌else◌, Option, Some, None, List, [], ◌∷◌, length, is_some, slice_get, refl}
 use Rattle.std.specs.Option.{option_map}
 use Rattle.std.specs.Coded.{Coded, code_by, coded×, coded_ℕ, coded_bool, coded_list}
 use Rattle.gx_base.specs.declared.acts.Entry.{Entry}
@@ -90,6 +90,13 @@ pub record AreKept {V : Type 0} (tells : V → RoomView) (view : RoomsView V) (v
   pub live : (room : ℕ) (value : V) → view.told room ≡ Some value → entries_for view.acts_for (tells value).live ≡ view.live room
   pub marks : (room : ℕ) (value : V) → view.told room ≡ Some value → is_book (tells value).origin ≡ false → (tells value).mark ≤ (if view.released room then count_of tells view + 1 else count_of tells view)
   pub released : (room : ℕ) → view.released room ≡ true → holds_book view ≡ true
+
+-- each room up to the book's has a value that suits it, and no other room has one
+pub record AreTold {V : Type 0} (tells : V → RoomView) (view : RoomsView V) : Type 0 where
+  pub there : (room : ℕ) → room ≤ view.book → is_some (view.told room) ≡ true
+  pub no_more : (room : ℕ) → view.book < room → view.told room ≡ None
+  pub suits : (room : ℕ) (value : V) → view.told room ≡ Some value → Suits view.book view.ordered room (tells value)
+  pub live : (room : ℕ) (value : V) → view.told room ≡ Some value → entries_for view.acts_for (tells value).live ≡ view.live room
 
 -- ---- how these are stored
 

@@ -1,6 +1,6 @@
 ghost use Rattle.std.specs.Prelude.{◌≡◌, ◌<◌, ◌^◌, ℕ, true, false, [], length, map, slice_get, slice_set, Some};
 ghost use Rattle.rooms.specs.RoomsViews.{is_held};
-ghost use Rattle.rooms.specs.Visits.{AreGatesAndBook, view_of};
+ghost use Rattle.rooms.specs.Visits.{AreGatesAndBook, AreTold, view_of};
 
 use crate::history::History;
 use crate::rooms::Rooms;
@@ -49,6 +49,21 @@ impl<V: Vacant> VecRooms<V> {
             history,
             alloc,
         }
+    }
+
+    /// The values as they are, the book last.
+    pub fn values(&self) -> &[V]
+        requires { (room : ℕ) → is_held (view_of V.told self.now) room ≡ false }
+        ensures { (room : ℕ) → slice_get result.now room ≡ (view_of V.told self.now).told room }
+    {
+        self.values.as_slice()
+    }
+
+    /// These rooms tell what each of them has. For proofs: it does nothing.
+    pub fn tell(&self)
+        ensures { AreTold V.told (view_of V.told self.now) }
+    {
+        let _ = &self.values;
     }
 
     /// The values as they are, the book last.

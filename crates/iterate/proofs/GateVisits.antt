@@ -1,0 +1,113 @@
+-- Turns that leave one gate.
+use Rattle.std.specs.Prelude.{◌≡◌, ◌≢◌, ◌⊎◌, ℕ, ◌<◌, ◌≤◌, Bool, true, false, ◌==◌, if◌then◌else◌, Option, Some, None, List, [], ◌∷◌, length, is_some, Result, Ok, Err, refl, ⊤}
+use Rattle.std.proofs.Common.{sym, ◌∙◌, ap, subst, inl, inr, arith}
+use Rattle.gx_base.specs.declared.acts.Entry.{Entry}
+use Rattle.gx_base.specs.Plans.{Operator}
+use Rattle.gx_base.specs.Replays.{put}
+use Rattle.gx_base.specs.RoomViews.{RoomView}
+use Rattle.gate_core.specs.Views.{GateView}
+use Rattle.commit_book.specs.BookViews.{BookView}
+use Rattle.speculation.specs.Machines.{Place}
+use Rattle.speculation.proofs.Putting.{numbers_equal}
+use Rattle.rooms.specs.RoomsViews.{RoomsView, entries_for, entered, left, is_held}
+use Rattle.rooms.specs.HandedOut.{IsHandedOut, IsTold, IsLost}
+use Rattle.rooms.specs.Values.{tells}
+use Rattle.rooms.specs.declared.values.Value.{Value}
+use Rattle.rooms.specs.declared.values.Value.TheVariants.{Object, Book}
+use Rattle.rooms.proofs.CallerLemmas.{put_same, put_other}
+use Rattle.iterate.specs.declared.events.Event.{Event as CodeEvent}
+use Rattle.iterate.specs.declared.events.Stop.{Stop}
+use Rattle.iterate.specs.Places.{IsLogOf, IsFit, AreWithin, IsFitIn, gate_of, book_of, IfTold, IsBookIn, StandsOn}
+use Rattle.iterate.specs.SessionViews.{OpenCommit, SessionView}
+use Rattle.iterate.specs.Turns.{OthersStay, Answers, TakesTurn, IsLostIn}
+use Rattle.iterate.specs.Visits.{WasVisited}
+use Rattle.iterate.proofs.Logs.{log_shown}
+use Rattle.iterate.proofs.Standing.{AreLeft, fits, told_gate, base_gates, base_book_in, base_place, base_stands}
+use Rattle.iterate.proofs.Visiting.{SameGates, same_gates, then_same, one_left, other_than_room}
+use Rattle.iterate.proofs.Turning.{held_again, no_loss, one_loss, turned}
+use Rattle.iterate.proofs.BookTurns.{free_of}
+
+module _ {T S : Type 0} where
+  abbrev pub gate_place : RoomsView (Value T S) → SessionView → (room : ℕ) → GateView → BookView → Place
+  gate_place a s room was bk = record { gates = put (base_gates a) room was; book = bk; session = s.at }
+
+  module _ (op : Operator) (a x : RoomsView (Value T S)) (s : SessionView) (room : ℕ) (was : GateView) (before : SameGates a x) (handed : IsHandedOut tells x room (Object was)) (fit : IsFit op a s) (none : s.opened ≡ None)
+      (below : room < a.book) (bk : BookView) (book_in : IsBookIn a None bk) (ordered : bk.ordered ≡ a.ordered) where
+    here : IfTold (a.told room) (λ value. was ≡ gate_of value)
+    here = subst (λ (o : Option (Value T S)). IfTold o (λ value. was ≡ gate_of value)) (before.told room below) (told_gate (x.told room) was handed.told)
+
+    log_here : IsLogOf room s was.live
+    log_here =
+        log_shown a.acts_for s.worker s.at.iter s.at.item fit.acts room s.at.outcome.steps was.live
+        (subst (IsLogOf room s) (sym (before.live room below) ∙ sym (handed.live refl) ∙ ap (λ f. entries_for f was.live) before.acts_for) (fit.live room below))
+
+    gates_by : (other : ℕ) → other < a.book → (c : Bool) → (room == other) ≡ c → IfTold (a.told other) (λ value. put (base_gates a) room was other ≡ gate_of value)
+    gates_by other l true e =
+        subst (λ n. IfTold (a.told n) (λ value. put (base_gates a) room was n ≡ gate_of value)) (numbers_equal room other e)
+        (subst (λ (g : GateView). IfTold (a.told room) (λ value. g ≡ gate_of value)) (sym (put_same (base_gates a) room was)) here)
+    gates_by other l false e = subst (λ (g : GateView). IfTold (a.told other) (λ value. g ≡ gate_of value)) (sym (put_other (base_gates a) room was other e)) ((base_stands op a s fit none).gates other l)
+
+    logs_by : (other : ℕ) → other < a.book → (c : Bool) → (room == other) ≡ c → IsLogOf other s (put (base_gates a) room was other).live
+    logs_by other l true e =
+        subst (λ n. IsLogOf n s (put (base_gates a) room was n).live) (numbers_equal room other e) (subst (λ (g : GateView). IsLogOf room s g.live) (sym (put_same (base_gates a) room was)) log_here)
+    logs_by other l false e = subst (λ (g : GateView). IsLogOf other s g.live) (sym (put_other (base_gates a) room was other e)) ((base_stands op a s fit none).logs other l)
+
+    pub gate_stands : StandsOn a s (gate_place a s room was bk)
+    gate_stands = record {
+      session_is = refl;
+      gates = λ other l. gates_by other l (room == other) refl;
+      no_others = λ other l. put_other (base_gates a) room was other (other_than_room room other (omega arith)) ∙ (base_stands op a s fit none).no_others other l;
+      logs = λ other l. logs_by other l (room == other) refl;
+      book = subst (λ (o : Option OpenCommit). IsBookIn a o bk) (sym none) book_in;
+      ordered = ordered;
+    }
+
+    -- the worker's entries that were there are those of its log
+    pub gate_log : IsLogOf room s was.live
+    gate_log = log_here
+
+  module _ (op : Operator) (a x y b : RoomsView (Value T S)) (s t : SessionView) (room : ℕ) (was now : GateView) (before : SameGates a x) (visit : WasVisited x y room was now) (after : SameGates y b)
+      (fit : IsFit op a s) (none : s.opened ≡ None) (same : t.worker ≡ s.worker) (below : room < a.book)
+      (p_book q_book : BookView) (p_in : IsBookIn a None p_book) (p_ordered : p_book.ordered ≡ a.ordered) (q_in : IsBookIn b t.opened q_book) (q_ordered : q_book.ordered ≡ a.ordered)
+      (lost : Option ℕ) (found : IsLostIn a b s lost)
+      (log : IsLogOf room t now.live) (others : OthersStay s.worker was.live now.live) (elsewhere : (other : ℕ) → (room == other) ≡ false → (es : List Entry) → IsLogOf other s es → IsLogOf other t es)
+      (within : AreWithin op.rooms t.at.outcome.steps) (doing : IsFitIn op b t t.opened) where
+    abbrev p : Place
+    p = gate_place a s room was p_book
+
+    abbrev q : Place
+    q = record { gates = put (put (base_gates a) room was) room now; book = q_book; session = t.at }
+
+    are_left : AreLeft a b s t p q
+    are_left =
+        one_left a b s t p q x y room (tells {T = T} {S = S} (Object was)) was now before visit.visit after below visit.handed (put_same (base_gates a) room was) refl log others elsewhere
+
+    pub gate_turn : (r : Result CodeEvent Stop) → Answers op a.book s t (gate_place a s room was p_book) (record { gates = put (put (base_gates a) room was) room now; book = q_book; session = t.at }) lost r → TakesTurn op a b s t r
+    gate_turn r answers = record {
+      has_turned = turned op a b s t p q are_left (gate_stands op a x s room was before visit.handed fit none below p_book p_in p_ordered) fit same refl q_in q_ordered lost found r answers;
+      is_fit = fits a b s t p q are_left fit.acts same op fit within doing;
+    }
+
+  -- ---- a visit of one gate alone
+
+  pub gate_visited : (a x b : RoomsView (Value T S)) (room : ℕ) (was left_as now : GateView) → IsHandedOut tells a room (Object was) → x ≡ entered a room (tells {T = T} {S = S} (Object was)) → b ≡ left tells x room (Object left_as) → left_as ≡ now
+      → WasVisited a b room was now
+  gate_visited a x b room was left_as now handed enters leaves same = record { handed = handed; visit = leaves ∙ (λ i. left tells (enters i) room (Object (same i))) }
+
+  module _ (a b : RoomsView (Value T S)) (room : ℕ) (was now : GateView) (visit : WasVisited a b room was now) where
+    field_of : {A : Type 0} → (f : RoomsView (Value T S) → A) → f b ≡ f (left tells (entered a room (tells {T = T} {S = S} (Object was))) room (Object now))
+    field_of f = ap f visit.visit
+
+    pub gate_visit_free : ((other : ℕ) → is_held a other ≡ false) → (other : ℕ) → is_held b other ≡ false
+    gate_visit_free free other = ap (λ (f : ℕ → Option RoomView). is_some (f other)) (field_of (λ v. v.held)) ∙ held_again a.held room (tells {T = T} {S = S} (Object was)) free other
+
+    pub gate_visit_lost : (other : ℕ) → b.lost other ≡ a.lost other
+    gate_visit_lost other = field_of (λ v. v.lost other)
+
+    pub gate_visit_book : room < a.book → (bk : BookView) → IsBookIn a None bk → IsBookIn b None bk
+    gate_visit_book below bk h =
+        subst (λ (o : Option (Value T S)). IfTold o (λ value. bk ≡ book_of value))
+        (sym ((λ i. b.told (field_of (λ v. v.book) i)) ∙ field_of (λ v. v.told a.book) ∙ put_other a.told room _ a.book (other_than_room room a.book below))) h
+
+    pub gate_visit_names : b.book ≡ a.book
+    gate_visit_names = field_of (λ v. v.book)

@@ -1,0 +1,98 @@
+-- Turns of sessions, put together from what became of the rooms and from what the machine does.
+use Rattle.std.specs.Prelude.{◌≡◌, ◌≢◌, ◌⊎◌, ℕ, ◌<◌, ◌≤◌, Bool, true, false, ◌==◌, if◌then◌else◌, Option, Some, None, List, [], ◌∷◌, length, is_some, Result, Ok, Err, refl, ⊤}
+use Rattle.std.proofs.Common.{sym, ◌∙◌, ap, subst, inl, inr, arith}
+use Rattle.gx_base.specs.declared.acts.Entry.{Entry}
+use Rattle.gx_base.specs.declared.items.Item.{Item}
+use Rattle.gx_base.specs.Plans.{Operator}
+use Rattle.gx_base.specs.Replays.{put}
+use Rattle.gx_base.specs.RoomViews.{RoomView}
+use Rattle.gate_core.specs.Views.{GateView}
+use Rattle.commit_book.specs.BookViews.{BookView}
+use Rattle.speculation.specs.Events as event
+use Rattle.speculation.specs.Limits.{limit_at}
+use Rattle.speculation.specs.Machines.{Place, Turned, turn_at}
+use Rattle.speculation.specs.Sessions.{Session, Phase}
+use Rattle.speculation.proofs.Putting.{no_bool, numbers_equal}
+use Rattle.rooms.specs.RoomsViews.{RoomsView, entered, left, is_held}
+use Rattle.rooms.specs.HandedOut.{IsHandedOut, IsLost, HasRisen}
+use Rattle.rooms.specs.Values.{tells}
+use Rattle.rooms.specs.declared.values.Value.{Value}
+use Rattle.rooms.specs.declared.values.Value.TheVariants.{Object, Book}
+use Rattle.rooms.proofs.CallerLemmas.{put_same, put_other}
+use Rattle.iterate.specs.declared.events.Event.{Event as CodeEvent}
+use Rattle.iterate.specs.declared.events.Event.TheVariants as code
+use Rattle.iterate.specs.declared.events.Stop.{Stop}
+use Rattle.iterate.specs.Needs.{gone_on, needs}
+use Rattle.iterate.specs.Places.{IsLogOf, IsFit, AreWithin, IsFitIn, IsBody, IfTold, book_of, IsBookIn, StandsOn}
+use Rattle.iterate.specs.SessionViews.{OpenCommit, SessionView}
+use Rattle.iterate.specs.SharedTurns.{Shared, whole_turn, shared_in, shared_turn, pushes_by}
+use Rattle.iterate.specs.Turns.{event_of, TellsRight, IsLostIn, limit_on, GoesWell, IsAfter, Answers, AreSameRooms, HasTurned}
+use Rattle.iterate.specs.Visits.{WasVisited, BookWasVisited}
+use Rattle.iterate.proofs.Standing.{RoomKept, GateLeft, AreLeft, stands, fits, same_rooms, told_book, base_place, base_gates, base_stands}
+use Rattle.iterate.proofs.Visiting.{SameGates, same_gates, entered_gates, lost_gates, book_gates, then_same, none_left, one_left}
+
+pub some_number : {x y : ℕ} → Some x ≡ Some y → x ≡ y
+some_number e = cc
+
+-- ---- held rooms
+
+none_held : (o : Option RoomView) → is_some o ≡ false → o ≡ None
+none_held None e = refl
+none_held (Some x) e = absurd (cc)
+
+module _ (held : ℕ → Option RoomView) (room : ℕ) (seen : RoomView) (free : (other : ℕ) → is_some (held other) ≡ false) where
+  again_by : (other : ℕ) (c : Bool) → (room == other) ≡ c → is_some (put (put held room (Some seen)) room None other) ≡ false
+  again_by other true e = ap (λ (o : Option RoomView). is_some o) (ap (λ n. put (put held room (Some seen)) room None n) (sym (numbers_equal room other e)) ∙ put_same (put held room (Some seen)) room None)
+  again_by other false e = ap (λ (o : Option RoomView). is_some o) (put_other (put held room (Some seen)) room None other e ∙ put_other held room (Some seen) other e) ∙ free other
+
+  -- what was entered and left again is held no more
+  pub held_again : (other : ℕ) → is_some (put (put held room (Some seen)) room None other) ≡ false
+  held_again other = again_by other (room == other) refl
+
+module _ {T S : Type 0} where
+  -- ---- counts of lost takes
+
+  pub no_loss : (a b : RoomsView (Value T S)) (s : SessionView) → ((room : ℕ) → b.lost room ≡ a.lost room) → IsLostIn a b s None
+  no_loss a b s h = record { needed = λ room e. absurd (cc); risen = λ room e. absurd (cc); others = λ room n. h room }
+
+  loss_others : (a b : RoomsView (Value T S)) (room other : ℕ) → IsLost a b room → Some room ≢ Some other → (c : Bool) → (room == other) ≡ c → b.lost other ≡ a.lost other
+  loss_others a b room other h n true e = absurd (n (ap Some (numbers_equal room other e)))
+  loss_others a b room other h n false e = ap (λ (v : RoomsView (Value T S)). v.lost other) h.same ∙ put_other a.lost room (b.lost room) other e
+
+  pub one_loss : (a b : RoomsView (Value T S)) (s : SessionView) (room : ℕ) → IsLost a b room → needs a.book s room ≡ true → IsLostIn a b s (Some room)
+  one_loss a b s room h n = record {
+    needed = λ other e. subst (λ r. needs a.book s r ≡ true) (some_number e) n;
+    risen = λ other e. subst (λ r. HasRisen (a.lost r) (b.lost r)) (some_number e) h.risen;
+    others = λ other m. loss_others a b room other h m (room == other) refl;
+  }
+
+  -- ---- answers of whole turns
+
+  module _ (op : Operator) (a b : RoomsView (Value T S)) (s t : SessionView) (p q : Place) where
+    pub whole : (u : Turned) (e : CodeEvent) → turn_at op p s.worker ≡ u → s.opened ≡ None → event_of e ≡ u.event → q ≡ u.place → t.opened ≡ None
+        → t.pushed ≡ pushes_by u.event s.pushed (gone_on p.session).outcome.pushes → limit_at u.event p.book (length p.session.outcome.steps) ≡ None → TellsRight p s.worker e
+        → Answers op a.book s t p q None (Ok e)
+    whole u e turned none event_is place_is opened_is pushed_is limit tells_right = (
+      subst (λ (o : Option OpenCommit). IsAfter (shared_in op a.book s p o None) (event_of e) t q) (sym none) (record {
+        event_is = event_is ∙ ap (λ (x : Turned). x.event) (sym turned);
+        place_is = place_is ∙ ap (λ (x : Turned). x.place) (sym turned);
+        opened_is = opened_is;
+        pushed_is = pushed_is ∙ ap (λ (x : Turned). pushes_by x.event s.pushed (gone_on p.session).outcome.pushes) (sym turned);
+      }),
+      tells_right,
+      subst (λ (o : Option OpenCommit). GoesWell op a.book p s.worker o None) (sym none) (ap (λ (x : Turned). limit_at x.event p.book (length p.session.outcome.steps)) turned ∙ limit),
+    )
+
+    pub turned : AreLeft a b s t p q → StandsOn a s p → IsFit op a s → t.worker ≡ s.worker → q.session ≡ t.at → IsBookIn b t.opened q.book → q.book.ordered ≡ a.ordered
+        → (lost : Option ℕ) → IsLostIn a b s lost → (r : Result CodeEvent Stop) → Answers op a.book s t p q lost r → HasTurned op a b s t r
+    turned h stood fit same session_is book ordered lost found r answers = record {
+      p = p;
+      q = q;
+      lost = lost;
+      stood = stood;
+      stands = stands a b s t p q h fit.acts same stood session_is book (ordered ∙ sym h.ordered);
+      found = found;
+      answers = answers;
+      same_rooms = same_rooms a b s t p q h fit.acts same stood;
+      same_worker = same;
+    }

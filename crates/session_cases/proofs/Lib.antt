@@ -1,0 +1,2 @@
+mod LostTakes
+mod ScriptMoves

@@ -1,0 +1,2 @@
+pub mod LostTakes
+pub mod Scripts

@@ -1,0 +1,34 @@
+-- Bodies that are written down: each is a part of one list of acts, from a place on to the next end.
+use Rattle.std.specs.Prelude.{ℕ, ℤ, pos, negsuc, ◌-◌, nat_lt, if◌then◌else◌, Option, List, [], ◌∷◌, length, drop}
+use Rattle.gx_base.specs.declared.acts.Act.{Act}
+use Rattle.gx_base.specs.declared.acts.Act.TheVariants as acts
+use Rattle.gx_base.specs.declared.calls.Reply.{Reply}
+use Rattle.gx_base.specs.Plans.{Plan, Call, Push, Done}
+
+-- the acts, up to their end, as a plan. A call past the rooms is an end
+abbrev pub plan_of : ℕ → List Act → Plan
+plan_of rooms [] = Done
+plan_of rooms (acts.Call room call ∷ rest) = if nat_lt room rooms then Call room call (λ reply. plan_of rooms rest) else Done
+plan_of rooms (acts.Push item ∷ rest) = Push item (plan_of rooms rest)
+plan_of rooms (acts.Done ∷ rest) = Done
+
+abbrev pub act_within : ℕ → Act → Act
+act_within rooms (acts.Call room call) = if nat_lt room rooms then acts.Call room call else acts.Done
+act_within rooms (acts.Push item) = acts.Push item
+act_within rooms acts.Done = acts.Done
+
+-- the first of them
+abbrev pub act_of : ℕ → List Act → Act
+act_of rooms [] = acts.Done
+act_of rooms (act ∷ rest) = act_within rooms act
+
+-- where an item's acts begin: at the place that its first number says
+abbrev pub start_of : List Act → ℤ → ℕ
+start_of acts (pos place) = place
+start_of acts (negsuc place) = length acts
+
+abbrev pub rest_at : ℕ → List Act → ℕ → Option Reply → Plan
+rest_at rooms acts at last = plan_of rooms (drop at acts)
+
+abbrev pub acts_left : List Act → ℕ → ℕ
+acts_left acts at = length acts - at
