@@ -1,7 +1,7 @@
 ghost use Rattle.std.specs.Prelude.{◌≡◌, [], length, map, IfOk, OnOk};
 ghost use Rattle.gx_base.specs.Replays.{in_rooms};
 ghost use Rattle.gx_base.specs.SerialIterations.{body, ready_after};
-ghost use Rattle.gx_base.specs.Worklists.{with_items};
+ghost use Rattle.gx_base.specs.Worklists.{with_items, without_item};
 ghost use Rattle.commit_book.specs.Commits.{outcome_of};
 ghost use Rattle.commit_book.specs.SerialRuns.{operator_of, IsWholeRun, IsUnfinished, IsDetermined};
 ghost use Rattle.commit_book.specs.declared.serial.SerialStop.TheVariants as stops;
@@ -80,9 +80,16 @@ pub fn commit_item<O: Operator, T: SeqType>(
     ensures ready { OnOk result (worklist.new ≡ ready_after worklist.old item (outcome_of outcome.new)) }
 {
     run_body(op, item, rooms, outcome)?;
-    worklist.remove(item);
-    worklist.insert_all(&outcome.pushes)?;
+    replace_by_pushes(worklist, item, &outcome.pushes)?;
     Ok(())
+}
+
+// An item that has run is ready no more, and then its pushes are.
+fn replace_by_pushes(worklist: &mut Worklist, item: Item, pushes: &[Item]) -> Result<(), NoMemory>
+    ensures { OnOk result (worklist.new ≡ with_items (without_item worklist.old item) pushes.now) }
+{
+    worklist.remove(item);
+    worklist.insert_all(pushes)
 }
 
 /// Runs the bodies of the ready items one after another on plain objects, the least ready item first, until none is ready.

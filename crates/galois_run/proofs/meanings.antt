@@ -1,5 +1,6 @@
 pub mod FlowRuns
 pub mod FlowAnswers
+pub mod ModeTexts
 pub mod ClassifyAnswers
 pub mod LimitedRuns
 pub mod NetworkRooms

@@ -1,3 +1,4 @@
 pub mod Flow
+pub mod ModeLines
 pub mod Classify
 pub mod About

@@ -3,6 +3,7 @@
 pub mod about;
 pub mod classify;
 pub mod flow;
+mod mode_lines;
 
 ghost use Rattle.std.specs.Prelude.{◌≤◌};
 ghost use Rattle.galois_run.specs.CommandMeanings.{command_meaning};

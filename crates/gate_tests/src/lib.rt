@@ -1,9 +1,12 @@
-//! Gates over sets and cells, with both screens that read the log: worked cases, and random calls beside a model that
-//! is written down separately. It holds tests alone, so that no crate below is proved again with them.
+//! Gates over sets and cells, with each screen that there is: worked cases, random calls beside a model that is written
+//! down separately, and random calls through gates that differ in their screens alone. It holds tests alone, so that no
+//! crate below is proved again with them.
 #![tactic(auto)]
 
 #[cfg(test)]
 mod gate_cases;
+#[cfg(test)]
+mod lock_cases;
 #[cfg(test)]
 mod meagre_cases;
 #[cfg(test)]
@@ -12,3 +15,5 @@ mod model;
 mod model_runs;
 #[cfg(test)]
 mod object_cases;
+#[cfg(test)]
+mod screen_runs;

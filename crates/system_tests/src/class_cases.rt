@@ -36,6 +36,11 @@ row remove contains SIMPLE a1 != a2
 row contains add SIMPLE a1 != a2
 row contains remove SIMPLE a1 != a2
 row contains contains SIMPLE true
+modes 2
+mode 0 add.a remove.a
+mode 1 contains.a
+matrix 0 xx
+matrix 1 x.
 ";
 
 const EMPTY_SET_ROWS: &str = "row add add SIMPLE false
@@ -47,6 +52,9 @@ row remove contains SIMPLE false
 row contains add SIMPLE false
 row contains remove SIMPLE false
 row contains contains SIMPLE false
+modes 1
+mode 0 add.* remove.* contains.*
+matrix 0 x
 ";
 
 const DOMAINS: &str = "type domains
@@ -80,6 +88,81 @@ row sum total SIMPLE false
 row sum move SIMPLE false
 row sum credit SIMPLE false
 row sum sum SIMPLE false
+modes none weigh total
+";
+
+/// An add lets a later look through, and a look no later add.
+const DIRECTED_SET: &str = "type set
+add add : true
+add remove : true
+add contains : true
+remove add : true
+remove remove : true
+remove contains : true
+contains add : false
+contains remove : true
+contains contains : true
+";
+
+const DIRECTED_SET_ROWS: &str = "row add add SIMPLE true
+row add remove SIMPLE true
+row add contains SIMPLE true
+row remove add SIMPLE true
+row remove remove SIMPLE true
+row remove contains SIMPLE true
+row contains add SIMPLE false
+row contains remove SIMPLE true
+row contains contains SIMPLE true
+modes 2
+mode 0 add.*
+mode 1 contains.*
+matrix 0 ..
+matrix 1 x.
+";
+
+/// Adds exclude each other where one of two values is the same; the other methods exclude all.
+const TWO_VALUES: &str = "type cells
+add add : b1 != b2 and a1 != a2
+";
+
+const TWO_VALUES_ROWS: &str = "row read read SIMPLE false
+row read add SIMPLE false
+row read set SIMPLE false
+row add read SIMPLE false
+row add add SIMPLE b1 != b2 and a1 != a2
+row add set SIMPLE false
+row set read SIMPLE false
+row set add SIMPLE false
+row set set SIMPLE false
+modes 4
+mode 0 read.* set.*
+mode 1 add.*
+mode 2 add.a
+mode 3 add.b
+matrix 0 xx..
+matrix 1 x...
+matrix 2 ..x.
+matrix 3 ...x
+";
+
+/// A reply against an argument.
+const REPLIES: &str = "type set
+add add : true
+add remove : p1 != a2
+add contains : true
+remove add : true
+remove remove : true
+remove contains : true
+contains add : true
+contains remove : true
+contains contains : true
+";
+
+const REPLIES_MODES: &str = "modes 2
+mode 0 add.p
+mode 1 remove.a
+matrix 0 .x
+matrix 1 ..
 ";
 
 const PRECISE_SET: &str = "type set
@@ -105,11 +188,44 @@ fn classifies(alloc: Global, text: &str, report: &str) -> Result<bool, Fail> {
     Ok(run.status == Status::Ok && run.written.as_slice() == report.as_bytes())
 }
 
+/// Whether `classify` on this text ends well, and its report with these lines.
+fn ends_with(alloc: Global, text: &str, lines: &str) -> Result<bool, Fail> {
+    let run = run_words(alloc, &["classify", "net"], text, NONE)?;
+    Ok(run.status == Status::Ok && run.written.as_slice().ends_with(lines.as_bytes()))
+}
+
 #[test]
 fn classify_set(rt: HostRuntime) -> Result<(), Fail> {
     let alloc = rt.alloc();
     assert!(rt; classifies(alloc, APART_SET, APART_SET_ROWS)?);
     assert!(rt; classifies(alloc, "type set\n", EMPTY_SET_ROWS)?);
+    Ok(())
+}
+
+#[test]
+fn modes_are_directed_and_of_several_values(rt: HostRuntime) -> Result<(), Fail> {
+    let alloc = rt.alloc();
+    assert!(rt; classifies(alloc, DIRECTED_SET, DIRECTED_SET_ROWS)?);
+    assert!(rt; classifies(alloc, TWO_VALUES, TWO_VALUES_ROWS)?);
+    assert!(rt; ends_with(alloc, REPLIES, REPLIES_MODES)?);
+    Ok(())
+}
+
+#[test]
+fn where_all_calls_commute_there_are_no_modes(rt: HostRuntime) -> Result<(), Fail> {
+    let alloc = rt.alloc();
+    let free = "type set
+add add : true
+add remove : true
+add contains : true
+remove add : true
+remove remove : true
+remove contains : true
+contains add : true
+contains remove : true
+contains contains : true
+";
+    assert!(rt; ends_with(alloc, free, "row contains contains SIMPLE true\nmodes 0\n")?);
     Ok(())
 }
 

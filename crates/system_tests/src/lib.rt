@@ -11,6 +11,8 @@ mod gate_cases;
 #[cfg(test)]
 mod run_cases;
 #[cfg(test)]
+mod schedule_cases;
+#[cfg(test)]
 mod serial_cases;
 #[cfg(test)]
 mod table_cases;

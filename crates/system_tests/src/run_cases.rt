@@ -198,7 +198,7 @@ fn short_writes(rt: HostRuntime) -> Result<(), Fail> {
 #[test]
 fn usage_words(rt: HostRuntime) -> Result<(), Fail> {
     let alloc = rt.alloc();
-    let wrong: [&[&str]; 10] = [
+    let wrong: [&[&str]; 14] = [
         &[],
         &["flow"],
         &["flow", "net", "net"],
@@ -209,6 +209,10 @@ fn usage_words(rt: HostRuntime) -> Result<(), Fail> {
         &["classify"],
         &["classify", "net", "net"],
         &["classify", "--table"],
+        &["flow", "--help"],
+        &["--help", "net"],
+        &["--help", "--version"],
+        &["--Help"],
     ];
     for words in wrong {
         let run = run_words(alloc, words, FOUR_NODES, NONE)?;
@@ -217,6 +221,38 @@ fn usage_words(rt: HostRuntime) -> Result<(), Fail> {
     }
     let dash = run_words(alloc, &["flow", "-net"], FOUR_NODES, NONE)?;
     assert!(rt; dash.status == Status::ReadFault);
+    Ok(())
+}
+
+/// Whether this word alone ends well, reads nothing, and writes a text that begins and ends like this.
+fn tells_of_itself(alloc: Global, word: &str, first: &str, last: &str) -> Result<bool, Fail> {
+    let failing = Trouble {
+        reads: &[1],
+        ..NONE
+    };
+    let run = run_words(alloc, &[word], FOUR_NODES, failing)?;
+    let text = run.written.as_slice();
+    Ok(
+        run.status == Status::Ok
+            && text.starts_with(first.as_bytes())
+            && text.ends_with(last.as_bytes()),
+    )
+}
+
+#[test]
+fn help_and_version(rt: HostRuntime) -> Result<(), Fail> {
+    let alloc = rt.alloc();
+    let first = "usage: galois COMMAND WORDS [--name value]...\n\nCommands:\n  flow FILE ";
+    assert!(rt;
+        tells_of_itself(
+            alloc,
+            "--help",
+            first,
+            "\n  galois flow examples/four-nodes.max\n"
+        )?
+    );
+    let name = "galois 0.1\n";
+    assert!(rt; tells_of_itself(alloc, "--version", name, name)?);
     Ok(())
 }
 

@@ -10,7 +10,7 @@ use Rattle.cond_text.specs.TextFaults.{IsTold}
 use Rattle.galois_run.specs.declared.run_faults.RunFault.{RunFault}
 use Rattle.galois_run.specs.declared.run_faults.RunFault.TheVariants.{BadInput}
 use Rattle.galois_run.specs.RunFaults.{fault_of_text, FaultsWhere}
-use Rattle.galois_run.specs.commands.Classify.{classify_text, IsClassReport, IsFaultyTable}
+use Rattle.galois_run.specs.commands.Classify.{IsClassText, IsClassReport, IsFaultyTable}
 
 -- the fault that is told, where a text's first fault is on the line that is told
 fault_at : {A : Type 0} (wanted : List Kind) (bytes : List ℕ) (told line : ℕ) (fault : Fault) → IsFirstFault wanted bytes told fault → (IsFaultyTable wanted bytes line → told ≡ line)
@@ -49,7 +49,7 @@ text_reported bytes wanted kinds line text e none = record {
   always = λ m. absurd (none line m.fault (subst (λ (these : List Kind). IsFirstFault these bytes line m.fault) (sym e) m.is_first));
 }
 
-pub class_report : (bytes : List ℕ) (wanted kinds : List Kind) (kind : Kind) (rows : RowMap) (report : List ℕ) → wanted ≡ kinds → IsTableText wanted bytes kind rows → report ≡ classify_text kind (row_of rows)
+pub class_report : (bytes : List ℕ) (wanted kinds : List Kind) (kind : Kind) (rows : RowMap) (report : List ℕ) → wanted ≡ kinds → IsTableText wanted bytes kind rows → IsClassText kind (row_of rows) report
     → IsClassReport kinds bytes report
 class_report bytes wanted kinds kind rows report e table is = record {
   kind = kind;

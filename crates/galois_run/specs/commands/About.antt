@@ -12,7 +12,7 @@ help_lines =
     ∷ codes "  flow FILE       run preflow-push on the network in FILE, and write the order of"
     ∷ codes "                  the commits and the flow that they leave"
     ∷ codes "  classify FILE   read the table of conditions in FILE, and write the class of"
-    ∷ codes "                  each of its rows"
+    ∷ codes "                  each of its rows, and the lock modes that keep it"
     ∷ codes "  --help          write this text"
     ∷ codes "  --version       write the name and the version of the program"
     ∷ codes ""

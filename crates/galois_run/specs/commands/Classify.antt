@@ -1,5 +1,5 @@
 -- What `classify` says of a file: its report, byte by byte, and the lines that it tells.
-use Rattle.std.specs.Prelude.{◌≡◌, ℕ, ◌≤◌, List, [], ◌∷◌, codes}
+use Rattle.std.specs.Prelude.{◌≡◌, ℕ, ◌≤◌, List, [], ◌∷◌, ◌++◌, codes}
 use Rattle.std.specs.List.{flat_map}
 use Rattle.gx_base.specs.declared.kinds.Kind.{Kind}
 use Rattle.gx_base.specs.Conditions.{Condition}
@@ -15,6 +15,7 @@ use Rattle.cond_syntax.specs.TableTexts.{all_kinds, Fault, IsTableText, IsFirstF
 use Rattle.line_writer.specs.Lines.{line}
 use Rattle.galois_run.specs.Inputs.{main_of}
 use Rattle.galois_run.specs.CommandMeaning.{CommandMeaning}
+use Rattle.galois_run.specs.commands.ModeLines.{AreModeLines}
 
 -- the word of a class
 abbrev pub class_text : Grade → List ℕ
@@ -34,15 +35,21 @@ abbrev pub first_lines : Kind → Rows → ℕ → List ℕ
 first_lines kind rows first = flat_map (row_line rows first) (methods_of (kind_number kind))
 
 -- a line for each pair of methods of the kind, by their numbers
-abbrev pub classify_text : Kind → Rows → List ℕ
-classify_text kind rows = flat_map (first_lines kind rows) (methods_of (kind_number kind))
+abbrev pub rows_text : Kind → Rows → List ℕ
+rows_text kind rows = flat_map (first_lines kind rows) (methods_of (kind_number kind))
 
--- the file is the text of a table of one of the wanted kinds, and this tells its rows
+-- the lines of the rows, and then those on lock modes
+pub record IsClassText (kind : Kind) (rows : Rows) (text : List ℕ) : Type 0 where
+  pub on_modes : List ℕ
+  pub are_mode_lines : AreModeLines (kind_number kind) rows on_modes
+  pub is : text ≡ rows_text kind rows ++ on_modes
+
+-- the file is the text of a table of one of the wanted kinds, and this tells its rows and its modes
 pub record IsClassReport (wanted : List Kind) (bytes report : List ℕ) : Type 0 where
   pub kind : Kind
   pub rows : RowMap
   pub is_table : IsTableText wanted bytes kind rows
-  pub is_report : report ≡ classify_text kind (row_of rows)
+  pub is_report : IsClassText kind (row_of rows) report
 
 -- the file is the text of a table of one of the wanted kinds
 pub record IsTable (wanted : List Kind) (bytes : List ℕ) : Type 0 where

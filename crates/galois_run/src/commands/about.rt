@@ -16,7 +16,7 @@ const HELP: &str = concat!(
     "  flow FILE       run preflow-push on the network in FILE, and write the order of\n",
     "                  the commits and the flow that they leave\n",
     "  classify FILE   read the table of conditions in FILE, and write the class of\n",
-    "                  each of its rows\n",
+    "                  each of its rows, and the lock modes that keep it\n",
     "  --help          write this text\n",
     "  --version       write the name and the version of the program\n",
     "\n",

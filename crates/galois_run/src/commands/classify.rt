@@ -1,4 +1,4 @@
-//! The command `classify`: from the text of a table to the classes of its rows.
+//! The command `classify`: from the text of a table to the classes of its rows, and its lock modes.
 
 ghost use Rattle.std.specs.Prelude.{◌≡◌, ℕ, Err, IfOk, OnOk, [], ◌∷◌, ◌++◌, codes};
 ghost use Rattle.gx_base.specs.Conditions.{condition_of};
@@ -7,11 +7,12 @@ ghost use Rattle.gx_base.specs.declared.inputs.What.{What};
 ghost use Rattle.speculation.specs.Limits.{Limit};
 ghost use Rattle.galois_run.specs.Inputs.{inputs_in};
 ghost use Rattle.cond_syntax.specs.TableTexts.{all_kinds};
-ghost use Rattle.galois_run.specs.commands.Classify.{class_text, pair_line, first_lines, classify_text, IsClassReport, IsFaultyTable, classify_meaning};
+ghost use Rattle.galois_run.specs.commands.Classify.{class_text, pair_line, first_lines, rows_text, IsClassText, IsClassReport, IsFaultyTable, classify_meaning};
 ghost use Rattle.line_writer.specs.Lines.{line};
 ghost use Rattle.galois_run.specs.RunFaults.{fault_of_text, fault_of_limit, FaultsWhere, Answers};
 ghost use Rattle.galois_run.specs.declared.run_faults.RunFault.TheVariants as faults;
 
+use crate::commands::mode_lines::mode_lines;
 use crate::inputs::InputFiles;
 use crate::run_faults::RunFault;
 use cond_lattice::{Grade, class};
@@ -92,10 +93,10 @@ fn put_first(
     Ok(())
 }
 
-/// Tells each row of a table: its methods, its class and its condition.
+/// The lines of the rows of a table: its methods, its class and its condition.
 #[tactic(auto, using(gx_base::proofs::CallerLemmas::methods_end, gx_base::proofs::CallerLemmas::place_below, cond_print::proofs::CallerLemmas::all_pieces))]
-pub fn classify(alloc: Global, kind: Kind, table: &Table) -> Result<Vec<u8>, NoMemory>
-    ensures { IfOk result (λ text. text.items ≡ classify_text kind (row_of table.now)) }
+fn row_lines(alloc: Global, kind: Kind, table: &Table) -> Result<Vec<u8>, NoMemory>
+    ensures { IfOk result (λ text. text.items ≡ rows_text kind (row_of table.now)) }
 {
     let mut text = Vec::new(alloc);
     let mut place = 0;
@@ -103,6 +104,17 @@ pub fn classify(alloc: Global, kind: Kind, table: &Table) -> Result<Vec<u8>, NoM
         put_first(alloc, &mut text, kind, table, first)?;
         place += 1;
     }
+    Ok(text)
+}
+
+/// Tells each row of a table, its methods, its class and its condition, and then the lock modes that keep the table,
+/// or the first row that no locks keep.
+pub fn classify(alloc: Global, kind: Kind, table: &Table) -> Result<Vec<u8>, NoMemory>
+    ensures { IfOk result (λ text. IsClassText kind (row_of table.now) text.items) }
+{
+    let mut text = row_lines(alloc, kind, table)?;
+    let on_modes = mode_lines(alloc, kind, table)?;
+    text.extend_from_slice(on_modes.as_bytes())?;
     Ok(text)
 }
 

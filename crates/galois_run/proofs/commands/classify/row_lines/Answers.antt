@@ -5,7 +5,7 @@ use Rattle.gx_base.specs.TableRows.{row_of}
 use Rattle.gx_base.proofs.CallerLemmas.{methods_from}
 use Rattle.galois_run.specs.commands.Classify.{first_lines}
 use Rattle.cond_print.proofs.CallerLemmas.{one_more_piece}
-use Rattle.galois_run.proofs.commands.classify.classify.Goals as goal
+use Rattle.galois_run.proofs.commands.classify.row_lines.Goals as goal
 
 pub loop-first-preserved : goal.loop-first-preserved
 loop-first-preserved c =

@@ -1,0 +1,2 @@
+pub mod accepting
+pub mod sorts

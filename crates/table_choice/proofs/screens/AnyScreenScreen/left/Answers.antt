@@ -1,0 +1,5 @@
+use Rattle.table_choice.proofs.sorts.KeptSuits.{kept}
+use Rattle.table_choice.proofs.screens.AnyScreenScreen.left.Goals as goal
+
+pub returns-in-Lock-clause-same : goal.returns-in-Lock-clause-same
+returns-in-Lock-clause-same g c = kept c.args.self.now c.in-Lock.locks c.left.new.self c.in-Lock.is c.left.ensures.same
