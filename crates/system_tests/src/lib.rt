@@ -16,3 +16,5 @@ mod schedule_cases;
 mod serial_cases;
 #[cfg(test)]
 mod table_cases;
+#[cfg(test)]
+mod turn_cases;
