@@ -17,4 +17,6 @@ mod serial_cases;
 #[cfg(test)]
 mod table_cases;
 #[cfg(test)]
+mod trace_cases;
+#[cfg(test)]
 mod turn_cases;
