@@ -1,6 +1,7 @@
 -- What a command means.
 use Rattle.std.specs.Prelude.{ℕ, List}
 use Rattle.gx_base.specs.declared.inputs.What.{What}
+use Rattle.speculation.specs.Limits.{Limit}
 use Rattle.galois_run.specs.Inputs.{Inputs}
 
 pub record CommandMeaning : Type 1 where
@@ -10,8 +11,10 @@ pub record CommandMeaning : Type 1 where
   pub malformed : Inputs → ℕ → Type 0
   -- they are of that form, and past this limit of the command's
   pub too_large : Inputs → What → Type 0
-  -- they are of that form and within the limits, but what is done with them doesn't end within the commits that may be
-  pub unfinished : Inputs → Type 0
+  -- they are of that form and within the limits, but the first commit that would pass a limit on commits passes this one
+  pub passes : Inputs → Limit → Type 0
+  -- they are of that form and within the limits, and no commit would pass one
+  pub ends : Inputs → Type 0
   -- whatever the inputs are: the lines that may be told, the limits that there are, and whether it may run on
   pub lines : ℕ → Type 0
   pub limits : What → Type 0

@@ -1,8 +1,11 @@
 pub mod Statuses
+pub mod RunOptions
+pub mod RunTables
 pub mod Words
 pub mod Inputs
 pub mod CommandMeaning
 pub mod commands
 pub mod CommandMeanings
+pub mod NetworkRuns
 pub mod RunFaults
 pub mod RunTurns

@@ -10,9 +10,13 @@ use Rattle.gx_base.specs.declared.inputs.InputFault.TheVariants as inputs
 use Rattle.gx_io.specs.declared.fault.WholeRefuse.{WholeRefuse}
 use Rattle.gx_io.specs.declared.fault.WholeRefuse.TheVariants as refusals
 use Rattle.galois_run.specs.declared.run_faults.RunFault.{RunFault}
-use Rattle.galois_run.specs.declared.run_faults.RunFault.TheVariants.{BadInput, TooLarge, Spent, NoMemory}
+use Rattle.galois_run.specs.declared.run_faults.RunFault.TheVariants.{BadInput, TooLarge, Spent, Kept, NoMemory}
 use Rattle.galois_run.specs.declared.status.Status.{Status}
 use Rattle.galois_run.specs.declared.status.Status.TheVariants as statuses
+use Rattle.iterate.specs.declared.events.Stop.{Stop}
+use Rattle.iterate.specs.declared.events.Stop.TheVariants as stops
+use Rattle.speculation.specs.Limits.{Limit}
+use Rattle.speculation.specs.Limits as limits
 use Rattle.galois_run.specs.Inputs.{Inputs}
 use Rattle.galois_run.specs.CommandMeaning.{CommandMeaning}
 
@@ -31,11 +35,23 @@ fault_of_input (inputs.Line line) = BadInput line
 fault_of_input (inputs.Large what) = TooLarge what
 fault_of_input inputs.NoMemory = NoMemory
 
+-- why a run stopped
+abbrev pub fault_of_stop : Stop → RunFault
+fault_of_stop stops.Spent = Spent
+fault_of_stop stops.Kept = Kept
+fault_of_stop stops.NoMemory = NoMemory
+
+-- the limit that a commit would pass
+abbrev pub fault_of_limit : Limit → RunFault
+fault_of_limit limits.Spent = Spent
+fault_of_limit limits.Kept = Kept
+
 -- the status of the same name
 abbrev pub status_of_fault : RunFault → Status
 status_of_fault (BadInput line) = statuses.BadInput line
 status_of_fault (TooLarge what) = statuses.TooLarge what
 status_of_fault Spent = statuses.Spent
+status_of_fault Kept = statuses.Kept
 status_of_fault NoMemory = statuses.NoMemory
 
 -- why a file was not read, as a status
@@ -54,4 +70,4 @@ pub record Answers (meaning : CommandMeaning) (inputs : Inputs) (result : Result
   pub reported : IfOk result (λ text. meaning.reported inputs text.items)
   pub malformed : (line : ℕ) → FaultsWhere (meaning.malformed inputs line) (BadInput line) result
   pub too_large : (what : What) → FaultsWhere (meaning.too_large inputs what) (TooLarge what) result
-  pub unfinished : FaultsWhere (meaning.unfinished inputs) Spent result
+  pub passes : (limit : Limit) → FaultsWhere (meaning.passes inputs limit) (fault_of_limit limit) result

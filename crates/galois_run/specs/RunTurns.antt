@@ -5,6 +5,8 @@ use Rattle.gx_io.specs.Sinks.{Written, AddsWhole, AddsFront}
 use Rattle.gx_base.specs.declared.inputs.What.{What}
 use Rattle.galois_run.specs.declared.status.Status.{Status}
 use Rattle.galois_run.specs.declared.status.Status.TheVariants.{Ok, Usage, BadInput, ReadFault, WriteFault, NoMemory, TooLarge, Spent, Kept, BadTable}
+use Rattle.speculation.specs.Limits.{Limit}
+use Rattle.speculation.specs.Limits as limits
 use Rattle.galois_run.specs.Inputs.{Inputs, AreWithin, PassesFileLimit, IsFileLimit}
 use Rattle.galois_run.specs.CommandMeaning.{CommandMeaning}
 
@@ -21,11 +23,20 @@ pub record ComesWhere (cause : Type 0) (status result : Status) : Type 0 where
 abbrev pub PassesLimit : CommandMeaning → Inputs → What → Type 0
 PassesLimit meaning inputs what = PassesFileLimit inputs what ⊎ (AreWithin inputs × meaning.too_large inputs what)
 
+abbrev pub status_of_limit : Limit → Status
+status_of_limit limits.Spent = Spent
+status_of_limit limits.Kept = Kept
+
 -- each refusal of the inputs comes exactly where they call for it
 pub record IsCaused (meaning : CommandMeaning) (inputs : Inputs) (status : Status) : Type 0 where
   pub too_large : (what : What) → ComesWhere (PassesLimit meaning inputs what) (TooLarge what) status
   pub bad_input : (line : ℕ) → ComesWhere (AreWithin inputs × meaning.malformed inputs line) (BadInput line) status
-  pub spent : ComesWhere (AreWithin inputs × meaning.unfinished inputs) Spent status
+  pub past : (limit : Limit) → ComesWhere (AreWithin inputs × meaning.passes inputs limit) (status_of_limit limit) status
+
+-- where nothing is wrong with the inputs, and no commit would pass a limit, only a fault or want of memory keeps the report from being
+-- written whole
+abbrev pub Completes : CommandMeaning → Inputs → Status → Type 0
+Completes meaning inputs status = AreWithin inputs → meaning.ends inputs → (status ≡ Ok) ⊎ ((status ≡ WriteFault) ⊎ GivesUp status)
 
 -- the inputs call for this report
 pub record IsReported (meaning : CommandMeaning) (inputs : Inputs) (report : List ℕ) : Type 0 where
@@ -49,7 +60,7 @@ abbrev pub IsAnswer : CommandMeaning → Status → Type 0
 IsAnswer meaning (BadInput line) = meaning.lines line
 IsAnswer meaning (TooLarge what) = IsFileLimit what ⊎ meaning.limits what
 IsAnswer meaning Spent = meaning.runs_on
-IsAnswer meaning Kept = ⊥
+IsAnswer meaning Kept = meaning.runs_on
 IsAnswer meaning (BadTable why) = ⊥
 IsAnswer meaning _ = ⊤
 

@@ -4,22 +4,25 @@ use Rattle.std.specs.List.{starts_with}
 use Rattle.galois_run.specs.declared.words.Command.{Command}
 use Rattle.galois_run.specs.declared.words.Command.TheVariants.{Flow, Classify, Help, Version}
 use Rattle.galois_run.specs.declared.words.Plan.{Plan}
+use Rattle.galois_run.specs.declared.options.RunOptions.{RunOptions}
+use Rattle.galois_run.specs.RunOptions.{options_by, options_of}
 
--- a command, and the names of the files that are to be read for it, where the words give them: its main file, a file
--- of conditions, and a second file
+-- a command, the names of the files that are to be read for it, where the words give them (its main file, a file of
+-- conditions, and a second file), and the options of its run
 pub record Planned : Type 0 where
   pub command : Command
   pub main : Option (List ℕ)
   pub conditions : Option (List ℕ)
   pub second : Option (List ℕ)
+  pub options : RunOptions
 
 -- a command that reads no file
 abbrev pub alone : Command → Planned
-alone command = record { command = command; main = None; conditions = None; second = None }
+alone command = record { command = command; main = None; conditions = None; second = None; options = options_by [] }
 
 -- a command on one file
-abbrev pub on_main : Command → List ℕ → Planned
-on_main command file = record { command = command; main = Some file; conditions = None; second = None }
+abbrev pub on_main : Command → List ℕ → RunOptions → Planned
+on_main command file options = record { command = command; main = Some file; conditions = None; second = None; options = options }
 
 abbrev pub command_of : List ℕ → Option Command
 command_of word =
@@ -38,19 +41,24 @@ lone_command word =
 abbrev pub is_plain : List ℕ → Bool
 is_plain word = not (length word == 0) && not (starts_with nat_eq word (codes "--"))
 
-abbrev pub with_file : Option Command → List ℕ → Option Planned
-with_file None file = None
-with_file (Some command) file = if is_plain file then Some (on_main command file) else None
+-- the options that words are for a command. One that runs nothing has none
+abbrev pub options_for : Command → List (List ℕ) → Option RunOptions
+options_for Flow words = options_of words
+options_for command [] = Some (options_by [])
+options_for command (word ∷ words) = None
 
--- the grammar of the words: one of those that stand alone, or a command and one plain word
+abbrev pub with_file : Option Command → List ℕ → List (List ℕ) → Option Planned
+with_file None file words = None
+with_file (Some command) file words = if is_plain file then option_map (on_main command file) (options_for command words) else None
+
+-- the grammar of the words: one of those that stand alone, or a command, one plain word, and the command's options
 abbrev pub plan_of : List (List ℕ) → Option Planned
 plan_of [] = None
 plan_of (word ∷ []) = option_map alone (lone_command word)
-plan_of (word ∷ file ∷ []) = with_file (command_of word) file
-plan_of (word ∷ file ∷ more ∷ words) = None
+plan_of (word ∷ file ∷ words) = with_file (command_of word) file words
 
 abbrev pub planned : Plan → Planned
-planned plan = record { command = plan.command; main = option_map string_bytes plan.file; conditions = None; second = None }
+planned plan = record { command = plan.command; main = option_map string_bytes plan.file; conditions = None; second = None; options = plan.options }
 
 abbrev pub IsPlanned : Option Planned → Plan → Type 0
 IsPlanned wanted plan = wanted ≡ Some (planned plan)

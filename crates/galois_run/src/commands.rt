@@ -5,6 +5,7 @@ pub mod classify;
 pub mod flow;
 mod mode_lines;
 
+ghost use Rattle.std.specs.Prelude.{◌≤◌};
 ghost use Rattle.galois_run.specs.CommandMeanings.{command_meaning};
 ghost use Rattle.galois_run.specs.Inputs.{inputs_in};
 ghost use Rattle.galois_run.specs.RunFaults.{Answers};
@@ -24,10 +25,11 @@ pub(crate) fn report_of(
     plan: &Plan,
     inputs: &InputFiles,
 ) -> Result<Vec<u8>, RunFault>
+    requires { 1 ≤ (planned plan.now).options.workers }
     ensures { Answers (command_meaning (planned plan.now)) (inputs_in inputs.now) result }
 {
     match plan.command() {
-        Command::Flow => report_flow(alloc, inputs),
+        Command::Flow => report_flow(alloc, plan.options(), inputs),
         Command::Classify => report_classes(alloc, inputs),
         Command::Help => report_help(alloc),
         Command::Version => report_version(alloc),

@@ -7,12 +7,16 @@
 
 mod commands;
 mod inputs;
+mod network_runs;
+mod options;
 mod run;
 mod run_faults;
+mod run_tables;
 mod status;
 mod words;
 
 pub use commands::classify::classify;
+pub use options::RunOptions;
 pub use run::run_turns;
 pub use status::{Status, TableFault, status_line, status_number};
 pub use words::{Command, Plan, WordsFault, read_words};

@@ -1,11 +1,11 @@
 //! The top call.
 
-ghost use Rattle.std.specs.Prelude.{◌≡◌, ◌≢◌, ◌↔◌, None, Err, IfSome, IfOk, IfErr, map, string_bytes, true, false};
+ghost use Rattle.std.specs.Prelude.{◌≡◌, ◌≢◌, ◌↔◌, ◌≤◌, None, Err, IfSome, IfOk, IfErr, map, string_bytes, true, false};
 ghost use Rattle.gx_io.specs.Faults.{Counts};
 ghost use Rattle.gx_io.specs.Sinks.{AddsWhole, AddsFront};
 ghost use Rattle.galois_run.specs.CommandMeanings.{command_meaning};
 ghost use Rattle.galois_run.specs.Inputs.{inputs_of, OnInputs};
-ghost use Rattle.galois_run.specs.RunTurns.{IsCaused, IsReported, IsWritten, IsCutShort, IsAnswer, writes, IsRefusal, ending};
+ghost use Rattle.galois_run.specs.RunTurns.{IsCaused, IsReported, IsWritten, IsCutShort, IsAnswer, Completes, writes, IsRefusal, ending};
 ghost use Rattle.galois_run.specs.Words.{plan_of, planned};
 
 use crate::commands::report_of;
@@ -32,6 +32,9 @@ pub fn run_turns<F: Files, K: Sink>(
     ensures cut_short { result ≡ Status.WriteFault → OnInputs (plan_of (map string_bytes words.now)) (F.holds files.old) (λ plan inputs. IsCutShort (command_meaning plan) inputs (K.told out.old) (K.told out.new)) }
     ensures answers { IfSome (plan_of (map string_bytes words.now)) (λ plan. IsAnswer (command_meaning plan) result) }
 
+    // Where nothing is wrong with the inputs, nothing but a fault or want of memory keeps the report from being written.
+    ensures complete { OnInputs (plan_of (map string_bytes words.now)) (F.holds files.old) (λ plan inputs. Completes (command_meaning plan) inputs result) }
+
     // A count of faults rises with the status that tells the fault, and stays with every other.
     ensures read_fault { Counts (F.faults files.old) (F.faults files.new) (result ≡ Status.ReadFault) (result ≢ Status.ReadFault) }
     ensures write_fault { Counts (K.faults out.old) (K.faults out.new) (result ≡ Status.WriteFault) (result ≢ Status.WriteFault) }
@@ -49,6 +52,7 @@ pub fn run_turns<F: Files, K: Sink>(
 
 /// Makes the planned command's report on its inputs, and writes it.
 fn run_command<F: Files, K: Sink>(alloc: Global, plan: &Plan, files: &mut F, out: &mut K) -> Status
+    requires { 1 ≤ (planned plan.now).options.workers }
     ensures ok { result ≡ Status.Ok → IfSome (inputs_of (planned plan.now) (F.holds files.old)) (λ inputs. IsWritten (command_meaning (planned plan.now)) inputs (K.told out.old) (K.told out.new)) }
     ensures understood { result ≢ Status.Usage }
     ensures caused { IfSome (inputs_of (planned plan.now) (F.holds files.old)) (λ inputs. IsCaused (command_meaning (planned plan.now)) inputs result) }
@@ -67,6 +71,7 @@ fn run_command<F: Files, K: Sink>(alloc: Global, plan: &Plan, files: &mut F, out
 
 /// Reads the files that the plan names, and makes the planned command's report on them.
 fn make_report<F: Files>(alloc: Global, plan: &Plan, files: &mut F) -> Result<Vec<u8>, Status>
+    requires { 1 ≤ (planned plan.now).options.workers }
     ensures reported { IfOk result (λ text. IfSome (inputs_of (planned plan.now) (F.holds files.old)) (λ inputs. IsReported (command_meaning (planned plan.now)) inputs text.items)) }
     ensures caused { IfSome (inputs_of (planned plan.now) (F.holds files.old)) (λ inputs. IsCaused (command_meaning (planned plan.now)) inputs (ending result)) }
     ensures refusal { IfErr result IsRefusal }

@@ -3,6 +3,7 @@
 use crate::status::Status;
 use gx_base::{NoMemory, What};
 use gx_io::WholeRefuse;
+use iterate::Stop;
 
 /// Why there is no report on the inputs.
 #[derive(Clone, Copy, Debug, PartialEq, Eq, Drop)]
@@ -11,8 +12,10 @@ pub enum RunFault {
     BadInput { line: u64 },
     /// The inputs are of the form, and past this limit.
     TooLarge { what: What },
-    /// As many items have committed as may, and one is ready.
+    /// As many items have committed as may, and one would commit.
     Spent,
+    /// A commit would bring the journal past the steps that it may have.
+    Kept,
     NoMemory,
 }
 
@@ -27,6 +30,21 @@ impl From<NoMemory> for RunFault {
     }
 }
 
+impl From<Stop> for RunFault {
+    ghost use Rattle.std.specs.Prelude.{◌≡◌};
+    ghost use Rattle.galois_run.specs.RunFaults.{fault_of_stop};
+
+    ghost from_gives = { λ stop fault. fault ≡ fault_of_stop stop };
+
+    fn from(stop: Stop) -> RunFault {
+        match stop {
+            Stop::Spent => RunFault::Spent,
+            Stop::Kept => RunFault::Kept,
+            Stop::NoMemory => RunFault::NoMemory,
+        }
+    }
+}
+
 impl From<RunFault> for Status {
     ghost use Rattle.std.specs.Prelude.{◌≡◌};
     ghost use Rattle.galois_run.specs.RunFaults.{status_of_fault};
@@ -38,6 +56,7 @@ impl From<RunFault> for Status {
             RunFault::BadInput { line } => Status::BadInput { line },
             RunFault::TooLarge { what } => Status::TooLarge { what },
             RunFault::Spent => Status::Spent,
+            RunFault::Kept => Status::Kept,
             RunFault::NoMemory => Status::NoMemory,
         }
     }

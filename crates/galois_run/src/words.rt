@@ -1,7 +1,9 @@
-ghost use Rattle.std.specs.Prelude.{◌≡◌, ◌↔◌, ℕ, List, [], ◌∷◌, None, Some, IsErrOf, IfOk, map, string_bytes};
+ghost use Rattle.std.specs.Prelude.{◌≡◌, ◌↔◌, ◌≤◌, ◌<◌, [], ◌∷◌, length, None, IsErrOf, IfOk, IfSome, IfNone, map, string_bytes};
+ghost use Rattle.galois_run.specs.RunOptions.{options_by};
 ghost use Rattle.galois_run.specs.declared.words.WordsFault.TheVariants.{NoMemory};
-ghost use Rattle.galois_run.specs.Words.{command_of, lone_command, is_plain, IsPlanned, plan_of};
+ghost use Rattle.galois_run.specs.Words.{command_of, lone_command, is_plain, options_for, IsPlanned, planned, plan_of};
 
+use crate::options::{NO_OPTIONS, RunOptions, read_options};
 use std::alloc::{AllocError, Global};
 
 /// What the program is asked to do.
@@ -22,6 +24,7 @@ pub enum Command {
 pub struct Plan {
     command: Command,
     file: Option<String>,
+    options: RunOptions,
 }
 
 /// Why words are refused.
@@ -66,36 +69,64 @@ fn is_plain(word: &str) -> bool
     !word.is_empty() && !word.starts_with("--")
 }
 
+/// The options that words are for a command. One that runs nothing has none.
+fn options_for(command: Command, words: &[String]) -> Option<RunOptions>
+    ensures options { result ≡ options_for command (map string_bytes words.now) }
+    ensures workers { IfSome result (λ options. 1 ≤ options.workers) }
+{
+    match command {
+        Command::Flow => read_options(words),
+        Command::Classify | Command::Help | Command::Version => no_options(words),
+    }
+}
+
+fn no_options(words: &[String]) -> Option<RunOptions>
+    ensures some { IfSome result (λ options. (length words.now ≡ 0) × (options ≡ options_by [])) }
+    ensures none { IfNone result (0 < length words.now) }
+{
+    if words.is_empty() {
+        Some(NO_OPTIONS)
+    } else {
+        None
+    }
+}
+
 /// Reads the words after the program's own name.
 pub fn read_words(alloc: Global, words: &[String]) -> Result<Plan, WordsFault>
     ensures planned { IfOk result (IsPlanned (plan_of (map string_bytes words.now))) }
+    ensures workers { IfOk result (λ plan. 1 ≤ (planned plan).options.workers) }
     ensures usage { IsErrOf result WordsFault.Usage ↔ (plan_of (map string_bytes words.now) ≡ None) }
 {
-    match words {
-        [word] => plan_alone(word.as_str()),
-        [word, file] => plan_on_file(alloc, word.as_str(), file.as_str()),
-        _ => Err(WordsFault::Usage),
+    let Some((word, words)) = words.split_first() else {
+        return Err(WordsFault::Usage);
+    };
+    match words.split_first() {
+        Some((file, options)) => plan_on_file(alloc, word.as_str(), file.as_str(), options),
+        None => plan_alone(word.as_str()),
     }
 }
 
 /// Reads a word that stands alone.
 fn plan_alone(word: &str) -> Result<Plan, WordsFault>
     ensures planned { IfOk result (IsPlanned (plan_of (word.now ∷ []))) }
+    ensures workers { IfOk result (λ plan. 1 ≤ (planned plan).options.workers) }
     ensures usage { IsErrOf result WordsFault.Usage ↔ (plan_of (word.now ∷ []) ≡ None) }
 {
     match lone_command(word) {
         Some(command) => Ok(Plan {
             command,
             file: None,
+            options: NO_OPTIONS,
         }),
         None => Err(WordsFault::Usage),
     }
 }
 
-/// Reads a command and the name of a file.
-fn plan_on_file(alloc: Global, word: &str, file: &str) -> Result<Plan, WordsFault>
-    ensures planned { IfOk result (IsPlanned (plan_of (word.now ∷ file.now ∷ []))) }
-    ensures usage { IsErrOf result WordsFault.Usage ↔ (plan_of (word.now ∷ file.now ∷ []) ≡ None) }
+/// Reads a command, the name of a file, and options.
+fn plan_on_file(alloc: Global, word: &str, file: &str, words: &[String]) -> Result<Plan, WordsFault>
+    ensures planned { IfOk result (IsPlanned (plan_of (word.now ∷ file.now ∷ map string_bytes words.now))) }
+    ensures workers { IfOk result (λ plan. 1 ≤ (planned plan).options.workers) }
+    ensures usage { IsErrOf result WordsFault.Usage ↔ (plan_of (word.now ∷ file.now ∷ map string_bytes words.now) ≡ None) }
 {
     let Some(command) = command_named(word) else {
         return Err(WordsFault::Usage);
@@ -103,10 +134,14 @@ fn plan_on_file(alloc: Global, word: &str, file: &str) -> Result<Plan, WordsFaul
     if !is_plain(file) {
         return Err(WordsFault::Usage);
     }
+    let Some(options) = options_for(command, words) else {
+        return Err(WordsFault::Usage);
+    };
     let file = String::from_str(alloc, file)?;
     Ok(Plan {
         command,
         file: Some(file),
+        options,
     })
 }
 
@@ -118,6 +153,13 @@ impl Plan {
         ensures { result ≡ (planned self.now).command }
     {
         self.command
+    }
+
+    /// How the command runs its bodies.
+    pub fn options(&self) -> RunOptions
+        ensures { result ≡ (planned self.now).options }
+    {
+        self.options
     }
 
     /// The name of the command's main file, where it reads one.

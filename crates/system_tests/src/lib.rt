@@ -16,3 +16,7 @@ mod schedule_cases;
 mod serial_cases;
 #[cfg(test)]
 mod table_cases;
+#[cfg(test)]
+mod trace_cases;
+#[cfg(test)]
+mod turn_cases;

@@ -248,7 +248,7 @@ fn help_and_version(rt: HostRuntime) -> Result<(), Fail> {
             alloc,
             "--help",
             first,
-            "\n  galois flow examples/four-nodes.max\n"
+            "\n  galois flow examples/conflict.max --virtual 2 --turns 22 --trace on\n"
         )?
     );
     let name = "galois 0.1\n";

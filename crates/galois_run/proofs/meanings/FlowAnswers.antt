@@ -1,5 +1,5 @@
 -- What `flow` answers is what it means.
-use Rattle.std.proofs.Common.{◌≡◌, ◌⊎◌, inl, inr, ℕ, List, IfOk, Result, Ok, Err, Vec, refl, sym, ap, subst, ◌∙◌}
+use Rattle.std.proofs.Common.{◌≡◌, ◌≢◌, ◌⊎◌, inl, inr, ℕ, List, IfOk, Result, Ok, Err, Vec, refl, sym, ap, subst, ◌∙◌}
 use Rattle.std.specs.Global.{Global}
 use Rattle.gx_base.specs.declared.inputs.What.{What}
 use Rattle.gx_base.specs.declared.inputs.InputFault.{InputFault}
@@ -9,27 +9,30 @@ use Rattle.preflow_push.specs.Networks.{Net, view}
 use Rattle.preflow_push.specs.FlowLimits.{IsReadable, IsTooLarge, CallsFor, answer_of}
 use Rattle.preflow_push.proofs.CallerLemmas.{one_answer}
 use Rattle.galois_run.specs.declared.run_faults.RunFault.{RunFault}
-use Rattle.galois_run.specs.declared.run_faults.RunFault.TheVariants.{BadInput, TooLarge, Spent, NoMemory}
+use Rattle.galois_run.specs.declared.run_faults.RunFault.TheVariants.{BadInput, TooLarge, Spent, Kept, NoMemory}
 use Rattle.galois_run.specs.Inputs.{Inputs, main_of}
-use Rattle.galois_run.specs.RunFaults.{fault_of_input, FaultsWhere, Answers}
-use Rattle.galois_run.specs.commands.Flow.{IsReportOf, IsFlowReport, IsFaultyFlow, IsUnfinishedFlow, flow_meaning}
-use Rattle.galois_run.proofs.meanings.FlowRuns.{ends_or_is_unfinished}
+use Rattle.speculation.specs.Limits.{Limit}
+use Rattle.speculation.specs.Limits as limits
+use Rattle.galois_run.specs.declared.options.RunOptions.{RunOptions}
+use Rattle.galois_run.specs.RunFaults.{fault_of_input, fault_of_limit, FaultsWhere, Answers}
+use Rattle.galois_run.specs.commands.Flow.{IsReportOf, IsFlowReport, IsFlowPast, IsFaultyFlow, flow_meaning}
+use Rattle.galois_run.proofs.meanings.FlowRuns.{one_limit, ends_or_passes}
 
 abbrev Made : Type 0
 Made = Result (Vec ℕ Global) RunFault
 
 -- what is known of what is made of a flow file
-record Known (bytes : List ℕ) (result : Made) : Type 0 where
-  pub reported : IfOk result (λ text. IsFlowReport bytes text.items)
+record Known (options : RunOptions) (bytes : List ℕ) (result : Made) : Type 0 where
+  pub reported : IfOk result (λ text. IsFlowReport options bytes text.items)
   pub malformed : (line : ℕ) → result ≡ Err (BadInput line) → IsFaultyFlow bytes line
   pub too_large : (what : What) → result ≡ Err (TooLarge what) → IsTooLarge bytes what
-  pub unfinished : result ≡ Err Spent → IsUnfinishedFlow bytes
+  pub past : (limit : Limit) → result ≡ Err (fault_of_limit limit) → IsFlowPast options bytes limit
 
 -- ---- a text calls for one answer
-read_or_faulty : (bytes : List ℕ) (net : Net) (line : ℕ) → IsReadable bytes net → IsFaultyFlow bytes line → ⊥
+pub read_or_faulty : (bytes : List ℕ) (net : Net) (line : ℕ) → IsReadable bytes net → IsFaultyFlow bytes line → ⊥
 read_or_faulty bytes net line r m = let e : Ok net ≡ Err (inputs.Line line) = one_answer bytes (Ok net) (Err (inputs.Line line)) r m in cc
 
-read_or_large : (bytes : List ℕ) (net : Net) (what : What) → IsReadable bytes net → IsTooLarge bytes what → ⊥
+pub read_or_large : (bytes : List ℕ) (net : Net) (what : What) → IsReadable bytes net → IsTooLarge bytes what → ⊥
 read_or_large bytes net what r l = let e : Ok net ≡ Err (inputs.Large what) = one_answer bytes (Ok net) (Err (inputs.Large what)) r l in cc
 
 faulty_or_large : (bytes : List ℕ) (line : ℕ) (what : What) → IsFaultyFlow bytes line → IsTooLarge bytes what → ⊥
@@ -50,48 +53,66 @@ same_limit bytes a b p q =
     let e : answer a ≡ answer b = one_answer bytes (Err (inputs.Large a)) (Err (inputs.Large b)) p q in
     cc
 
-malformed : (bytes : List ℕ) (result : Made) (line : ℕ) → Known bytes result → FaultsWhere (IsFaultyFlow bytes line) (BadInput line) result
-malformed bytes (Ok text) line known = record { only = λ e. absurd (cc); always = λ m. absurd (read_or_faulty bytes known.reported.net line known.reported.is_read m) }
-malformed bytes (Err (BadInput told)) line known = record {
-  only = known.malformed line;
-  always = λ m. inl (ap (λ (n : ℕ). Err (BadInput n)) (same_line bytes told line (known.malformed told refl) m));
-}
-malformed bytes (Err (TooLarge what)) line known = record { only = λ e. absurd (cc); always = λ m. absurd (faulty_or_large bytes line what m (known.too_large what refl)) }
-malformed bytes (Err Spent) line known = record { only = λ e. absurd (cc); always = λ m. absurd (read_or_faulty bytes (known.unfinished refl).net line (known.unfinished refl).is_read m) }
-malformed bytes (Err NoMemory) line known = record { only = λ e. absurd (cc); always = λ m. inr refl }
+module _ (options : RunOptions) (bytes : List ℕ) where
+  malformed : (result : Made) (line : ℕ) → Known options bytes result → FaultsWhere (IsFaultyFlow bytes line) (BadInput line) result
+  malformed (Ok text) line known = record { only = λ e. absurd (cc); always = λ m. absurd (read_or_faulty bytes known.reported.net line known.reported.is_read m) }
+  malformed (Err (BadInput told)) line known = record {
+    only = known.malformed line;
+    always = λ m. inl (ap (λ (n : ℕ). Err (BadInput n)) (same_line bytes told line (known.malformed told refl) m));
+  }
+  malformed (Err (TooLarge what)) line known = record { only = λ e. absurd (cc); always = λ m. absurd (faulty_or_large bytes line what m (known.too_large what refl)) }
+  malformed (Err Spent) line known = record { only = λ e. absurd (cc); always = λ m. absurd (read_or_faulty bytes (known.past limits.Spent refl).net line (known.past limits.Spent refl).is_read m) }
+  malformed (Err Kept) line known = record { only = λ e. absurd (cc); always = λ m. absurd (read_or_faulty bytes (known.past limits.Kept refl).net line (known.past limits.Kept refl).is_read m) }
+  malformed (Err NoMemory) line known = record { only = λ e. absurd (cc); always = λ m. inr refl }
 
-too_large : (bytes : List ℕ) (result : Made) (what : What) → Known bytes result → FaultsWhere (IsTooLarge bytes what) (TooLarge what) result
-too_large bytes (Ok text) what known = record { only = λ e. absurd (cc); always = λ l. absurd (read_or_large bytes known.reported.net what known.reported.is_read l) }
-too_large bytes (Err (BadInput told)) what known = record { only = λ e. absurd (cc); always = λ l. absurd (faulty_or_large bytes told what (known.malformed told refl) l) }
-too_large bytes (Err (TooLarge told)) what known = record {
-  only = known.too_large what;
-  always = λ l. inl (ap (λ (w : What). Err (TooLarge w)) (same_limit bytes told what (known.too_large told refl) l));
-}
-too_large bytes (Err Spent) what known = record { only = λ e. absurd (cc); always = λ l. absurd (read_or_large bytes (known.unfinished refl).net what (known.unfinished refl).is_read l) }
-too_large bytes (Err NoMemory) what known = record { only = λ e. absurd (cc); always = λ l. inr refl }
+  too_large : (result : Made) (what : What) → Known options bytes result → FaultsWhere (IsTooLarge bytes what) (TooLarge what) result
+  too_large (Ok text) what known = record { only = λ e. absurd (cc); always = λ l. absurd (read_or_large bytes known.reported.net what known.reported.is_read l) }
+  too_large (Err (BadInput told)) what known = record { only = λ e. absurd (cc); always = λ l. absurd (faulty_or_large bytes told what (known.malformed told refl) l) }
+  too_large (Err (TooLarge told)) what known = record {
+    only = known.too_large what;
+    always = λ l. inl (ap (λ (w : What). Err (TooLarge w)) (same_limit bytes told what (known.too_large told refl) l));
+  }
+  too_large (Err Spent) what known = record { only = λ e. absurd (cc); always = λ l. absurd (read_or_large bytes (known.past limits.Spent refl).net what (known.past limits.Spent refl).is_read l) }
+  too_large (Err Kept) what known = record { only = λ e. absurd (cc); always = λ l. absurd (read_or_large bytes (known.past limits.Kept refl).net what (known.past limits.Kept refl).is_read l) }
+  too_large (Err NoMemory) what known = record { only = λ e. absurd (cc); always = λ l. inr refl }
 
--- the run ends, or it goes on past the commits that may be
-unfinished : (bytes : List ℕ) (result : Made) → Known bytes result → FaultsWhere (IsUnfinishedFlow bytes) Spent result
-unfinished bytes (Ok text) known = record { only = λ e. absurd (cc); always = λ u. absurd (ends_or_is_unfinished bytes text.items known.reported u) }
-unfinished bytes (Err (BadInput told)) known = record { only = λ e. absurd (cc); always = λ u. absurd (read_or_faulty bytes u.net told u.is_read (known.malformed told refl)) }
-unfinished bytes (Err (TooLarge what)) known = record { only = λ e. absurd (cc); always = λ u. absurd (read_or_large bytes u.net what u.is_read (known.too_large what refl)) }
-unfinished bytes (Err Spent) known = record { only = known.unfinished; always = λ u. inl refl }
-unfinished bytes (Err NoMemory) known = record { only = λ e. absurd (cc); always = λ u. inr refl }
+  no_limit : (fault : RunFault) (limit : Limit) → fault ≢ Spent → fault ≢ Kept → ◌≡◌ {A = Made} (Err fault) (Err (fault_of_limit limit)) → ⊥
+  no_limit fault limits.Spent s k e = s (cc)
+  no_limit fault limits.Kept s k e = k (cc)
 
-pub flow_answers : (inputs : Inputs) (bytes : List ℕ) (result : Made) → bytes ≡ main_of inputs
-    → IfOk result (λ text. IsFlowReport bytes text.items) → ((line : ℕ) → result ≡ Err (BadInput line) → IsFaultyFlow bytes line)
-    → ((what : What) → result ≡ Err (TooLarge what) → IsTooLarge bytes what) → (result ≡ Err Spent → IsUnfinishedFlow bytes)
-    → Answers flow_meaning inputs result
-flow_answers inputs bytes result e reported faulty large runs_on =
-    let known : Known (main_of inputs) result = subst (λ (x : List ℕ). Known x result) e (record { reported = reported; malformed = faulty; too_large = large; unfinished = runs_on }) in
-    record {
+  told_past : (fault : RunFault) (told limit : Limit) → fault ≡ fault_of_limit told → IsFlowPast options bytes told → IsFlowPast options bytes limit → ◌≡◌ {A = Made} (Err fault) (Err (fault_of_limit limit))
+  told_past fault told limit is p q = ap (λ (f : RunFault). Err f) (is ∙ ap fault_of_limit (one_limit options bytes told limit p q))
+
+  -- the run ends, or a commit passes one limit first
+  passes : (result : Made) (limit : Limit) → Known options bytes result → FaultsWhere (IsFlowPast options bytes limit) (fault_of_limit limit) result
+  passes (Ok text) limit known = record { only = λ e. absurd (cc); always = λ p. absurd (ends_or_passes options bytes text.items limit known.reported p) }
+  passes (Err (BadInput told)) limit known = record {
+    only = λ e. absurd (no_limit (BadInput told) limit (λ f. cc) (λ f. cc) e);
+    always = λ p. absurd (read_or_faulty bytes p.net told p.is_read (known.malformed told refl));
+  }
+  passes (Err (TooLarge what)) limit known = record {
+    only = λ e. absurd (no_limit (TooLarge what) limit (λ f. cc) (λ f. cc) e);
+    always = λ p. absurd (read_or_large bytes p.net what p.is_read (known.too_large what refl));
+  }
+  passes (Err Spent) limit known = record { only = known.past limit; always = λ p. inl (told_past Spent limits.Spent limit refl (known.past limits.Spent refl) p) }
+  passes (Err Kept) limit known = record { only = known.past limit; always = λ p. inl (told_past Kept limits.Kept limit refl (known.past limits.Kept refl) p) }
+  passes (Err NoMemory) limit known = record { only = λ e. absurd (no_limit NoMemory limit (λ f. cc) (λ f. cc) e); always = λ p. inr refl }
+
+pub flow_answers : (options : RunOptions) (inputs : Inputs) (bytes : List ℕ) (result : Made) → bytes ≡ main_of inputs
+    → IfOk result (λ text. IsFlowReport options bytes text.items) → ((line : ℕ) → result ≡ Err (BadInput line) → IsFaultyFlow bytes line)
+    → ((what : What) → result ≡ Err (TooLarge what) → IsTooLarge bytes what) → ((limit : Limit) → result ≡ Err (fault_of_limit limit) → IsFlowPast options bytes limit)
+    → Answers (flow_meaning options) inputs result
+flow_answers options inputs bytes result e reported faulty large past = by_main (subst (λ (file : List ℕ). Known options file result) e (record { reported = reported; malformed = faulty; too_large = large; past = past }))
+  where
+    by_main : Known options (main_of inputs) result → Answers (flow_meaning options) inputs result
+    by_main known = record {
       reported = known.reported;
-      malformed = λ line. malformed (main_of inputs) result line known;
-      too_large = λ what. too_large (main_of inputs) result what known;
-      unfinished = unfinished (main_of inputs) result known;
+      malformed = λ line. malformed options (main_of inputs) result line known;
+      too_large = λ what. too_large options (main_of inputs) result what known;
+      passes = λ limit. passes options (main_of inputs) result limit known;
     }
 
--- ---- what the reader tells
+-- ---- from the reader
 
 abbrev pub Told : List ℕ → Result Network InputFault → Type 0
 Told bytes r = (r ≡ Err inputs.NoMemory) ⊎ CallsFor bytes (answer_of r)
@@ -116,10 +137,13 @@ large_by bytes (inputs.Large w) what (inr none) e = absurd (cc)
 large_by bytes (inputs.Line k) what calls e = absurd (cc)
 large_by bytes inputs.NoMemory what calls e = absurd (cc)
 
-spent_by : (refused : InputFault) → fault_of_input refused ≡ Spent → ⊥
-spent_by (inputs.Line k) e = cc
-spent_by (inputs.Large w) e = cc
-spent_by inputs.NoMemory e = cc
+past_by : (refused : InputFault) (limit : Limit) → fault_of_input refused ≡ fault_of_limit limit → ⊥
+past_by (inputs.Line k) limits.Spent e = cc
+past_by (inputs.Line k) limits.Kept e = cc
+past_by (inputs.Large w) limits.Spent e = cc
+past_by (inputs.Large w) limits.Kept e = cc
+past_by inputs.NoMemory limits.Spent e = cc
+past_by inputs.NoMemory limits.Kept e = cc
 
 told_refusal : (bytes : List ℕ) (r : Result Network InputFault) (refused : InputFault) → r ≡ Err refused → Told bytes r → CallsFor bytes (Err refused) ⊎ (refused ≡ inputs.NoMemory)
 told_refusal bytes r refused e told = refusal bytes refused (subst (Told bytes) e told)
@@ -142,11 +166,11 @@ pub is_large : (bytes : List ℕ) (r : Result Network InputFault) (refused : Inp
 unfolding err_made
 is_large bytes r refused fault made what e told is made_is same = large_by bytes refused what (told_refusal bytes r refused e told) (sym is ∙ same_fault fault (TooLarge what) (sym made_is ∙ same))
 
-pub not_spent : (refused : InputFault) (fault : RunFault) (made : Made) → fault ≡ fault_of_input refused → made ≡ Err fault → made ≡ Err Spent → ⊥
+pub not_past : (refused : InputFault) (fault : RunFault) (made : Made) (limit : Limit) → fault ≡ fault_of_input refused → made ≡ Err fault → made ≡ Err (fault_of_limit limit) → ⊥
 unfolding err_made
-not_spent refused fault made is made_is same = spent_by refused (sym is ∙ same_fault fault Spent (sym made_is ∙ same))
+not_past refused fault made limit is made_is same = past_by refused limit (sym is ∙ same_fault fault (fault_of_limit limit) (sym made_is ∙ same))
 
 -- the report of a network that was read is that of its file
-pub is_reported : (bytes : List ℕ) (net : Net) (made : Made) → IsReadable bytes net → IfOk made (λ text. IsReportOf net text.items) → IfOk made (λ text. IsFlowReport bytes text.items)
-is_reported bytes net (Ok text) read report = record { net = net; is_read = read; is_report = report }
-is_reported bytes net (Err fault) read report = tt
+pub is_reported : (options : RunOptions) (bytes : List ℕ) (net : Net) (made : Made) → IsReadable bytes net → IfOk made (λ text. IsReportOf options net text.items) → IfOk made (λ text. IsFlowReport options bytes text.items)
+is_reported options bytes net (Ok text) read report = record { net = net; is_read = read; is_report = report }
+is_reported options bytes net (Err fault) read report = tt

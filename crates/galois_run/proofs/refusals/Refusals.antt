@@ -6,7 +6,7 @@ use Rattle.gx_base.specs.declared.inputs.What.TheVariants.{File, Nodes, Arcs, Po
 use Rattle.preflow_push.specs.Networks.{Net}
 use Rattle.preflow_push.specs.FlowLimits.{Passes}
 use Rattle.galois_run.specs.declared.run_faults.RunFault.{RunFault}
-use Rattle.galois_run.specs.declared.run_faults.RunFault.TheVariants.{BadInput, TooLarge, Spent, NoMemory}
+use Rattle.galois_run.specs.declared.run_faults.RunFault.TheVariants.{BadInput, TooLarge, Spent, Kept, NoMemory}
 use Rattle.galois_run.specs.declared.status.Status.{Status}
 use Rattle.galois_run.specs.declared.status.Status.TheVariants as statuses
 use Rattle.galois_run.specs.declared.words.Command.{Command}
@@ -15,8 +15,15 @@ use Rattle.galois_run.specs.CommandMeanings.{meaning_by}
 use Rattle.galois_run.specs.Inputs.{Inputs, IsWithinLength, IsTooLong, AreWithin, HasTooLong}
 use Rattle.galois_run.specs.CommandMeaning.{CommandMeaning}
 use Rattle.galois_run.specs.commands.Flow.{IsNetworkLimit}
-use Rattle.galois_run.specs.RunFaults.{status_of_fault, FaultsWhere, Answers}
-use Rattle.galois_run.specs.RunTurns.{ComesWhere, PassesLimit, IsCaused, IsAnswer, writes}
+use Rattle.cond_syntax.proofs.CallerLemmas.{no_fault_of_a_table}
+use Rattle.speculation.specs.Limits.{Limit}
+use Rattle.speculation.specs.Limits as limits
+use Rattle.cond_syntax.specs.TableTexts.{all_kinds}
+use Rattle.galois_run.specs.declared.options.RunOptions.{RunOptions}
+use Rattle.galois_run.specs.RunFaults.{fault_of_limit, status_of_fault, FaultsWhere, Answers}
+use Rattle.galois_run.specs.RunTurns.{ComesWhere, PassesLimit, status_of_limit, IsCaused, IsAnswer, Completes, writes}
+use Rattle.galois_run.proofs.meanings.FlowAnswers.{read_or_faulty, read_or_large}
+use Rattle.galois_run.proofs.meanings.FlowRuns.{stays_or_passes}
 
 -- ---- where a report is made, there is no cause for a refusal
 
@@ -39,11 +46,19 @@ not_too_large : (meaning : CommandMeaning) (inputs : Inputs) (what : What) → A
 not_too_large meaning inputs what within small (inl passed) = not_too_long inputs within passed.1
 not_too_large meaning inputs what within small (inr passed) = small passed.1
 
-report_caused : (command : Command) (inputs : Inputs) (text : Vec ℕ Global) → AreWithin inputs → Answers (meaning_by command) inputs (Ok text) → IsCaused (meaning_by command) inputs statuses.Ok
-report_caused command inputs text within answers = record {
-  too_large = λ what. never _ _ (λ e. cc) (not_too_large (meaning_by command) inputs what within (no_fault _ text (answers.too_large what)));
+not_ok : (limit : Limit) → statuses.Ok ≢ status_of_limit limit
+not_ok limits.Spent e = cc
+not_ok limits.Kept e = cc
+
+not_write_fault : (limit : Limit) → statuses.WriteFault ≢ status_of_limit limit
+not_write_fault limits.Spent e = cc
+not_write_fault limits.Kept e = cc
+
+report_caused : (command : Command) (options : RunOptions) (inputs : Inputs) (text : Vec ℕ Global) → AreWithin inputs → Answers (meaning_by command options) inputs (Ok text) → IsCaused (meaning_by command options) inputs statuses.Ok
+report_caused command options inputs text within answers = record {
+  too_large = λ what. never _ _ (λ e. cc) (not_too_large (meaning_by command options) inputs what within (no_fault _ text (answers.too_large what)));
   bad_input = λ line. never _ _ (λ e. cc) (λ m. no_fault _ text (answers.malformed line) m.1);
-  spent = never _ _ (λ e. cc) (λ m. no_fault _ text answers.unfinished m.1);
+  past = λ limit. never _ _ (not_ok limit) (λ m. no_fault (fault_of_limit limit) text (answers.passes limit) m.1);
 }
 
 -- what holds of the inputs that were read holds of those that the files hold, where that is told
@@ -51,9 +66,9 @@ at_inputs : (held : Option Inputs) (read : Inputs) (P : Inputs → Type 0) → I
 at_inputs None read P same h = tt
 at_inputs (Some inputs) read P same h = subst P same h
 
-pub report_by_held : (command : Command) (held : Option Inputs) (read : Inputs) (text : Vec ℕ Global) → IfSome held (λ inputs. read ≡ inputs) → AreWithin read
-    → Answers (meaning_by command) read (Ok text) → IfSome held (λ inputs. IsCaused (meaning_by command) inputs statuses.Ok)
-report_by_held command held read text same within answers = at_inputs held read _ same (report_caused command read text within answers)
+pub report_by_held : (command : Command) (options : RunOptions) (held : Option Inputs) (read : Inputs) (text : Vec ℕ Global) → IfSome held (λ inputs. read ≡ inputs) → AreWithin read
+    → Answers (meaning_by command options) read (Ok text) → IfSome held (λ inputs. IsCaused (meaning_by command options) inputs statuses.Ok)
+report_by_held command options held read text same within answers = at_inputs held read _ same (report_caused command options read text within answers)
 
 -- ---- where none is made, there is a cause for the refusal
 
@@ -61,18 +76,27 @@ same_fault : (told fault : RunFault) → status_of_fault told ≡ status_of_faul
 same_fault (BadInput k) (BadInput line) e = ap BadInput (let same : k ≡ line = cc in same)
 same_fault (BadInput k) (TooLarge what) e = absurd (cc)
 same_fault (BadInput k) Spent e = absurd (cc)
+same_fault (BadInput k) Kept e = absurd (cc)
 same_fault (BadInput k) NoMemory e = absurd (cc)
 same_fault (TooLarge w) (BadInput line) e = absurd (cc)
 same_fault (TooLarge w) (TooLarge what) e = ap TooLarge (let same : w ≡ what = cc in same)
 same_fault (TooLarge w) Spent e = absurd (cc)
+same_fault (TooLarge w) Kept e = absurd (cc)
 same_fault (TooLarge w) NoMemory e = absurd (cc)
 same_fault Spent (BadInput line) e = absurd (cc)
 same_fault Spent (TooLarge what) e = absurd (cc)
 same_fault Spent Spent e = refl
+same_fault Spent Kept e = absurd (cc)
 same_fault Spent NoMemory e = absurd (cc)
+same_fault Kept (BadInput line) e = absurd (cc)
+same_fault Kept (TooLarge what) e = absurd (cc)
+same_fault Kept Spent e = absurd (cc)
+same_fault Kept Kept e = refl
+same_fault Kept NoMemory e = absurd (cc)
 same_fault NoMemory (BadInput line) e = absurd (cc)
 same_fault NoMemory (TooLarge what) e = absurd (cc)
 same_fault NoMemory Spent e = absurd (cc)
+same_fault NoMemory Kept e = absurd (cc)
 same_fault NoMemory NoMemory e = refl
 
 status_by : {A : Type 0} (told fault : RunFault) (result : Result A RunFault) → result ≡ Err told → result ≡ Err fault → status_of_fault told ≡ status_of_fault fault
@@ -91,16 +115,21 @@ past_limit : (meaning : CommandMeaning) (inputs : Inputs) (what : What) → AreW
 past_limit meaning inputs what within (inl passed) = absurd (not_too_long inputs within passed.1)
 past_limit meaning inputs what within (inr passed) = passed.1
 
-refusal_caused : (command : Command) (inputs : Inputs) (told : RunFault) (result : Result (Vec ℕ Global) RunFault) → result ≡ Err told → AreWithin inputs → Answers (meaning_by command) inputs result → IsCaused (meaning_by command) inputs (status_of_fault told)
-refusal_caused command inputs told result is within answers = record {
-  too_large = λ what. comes told (TooLarge what) result is (past_limit (meaning_by command) inputs what within) (λ l. inr (within, l)) (answers.too_large what);
+refusal_past : (meaning : CommandMeaning) (inputs : Inputs) (told : RunFault) (result : Result (Vec ℕ Global) RunFault) (limit : Limit) → result ≡ Err told → AreWithin inputs
+    → FaultsWhere (meaning.passes inputs limit) (fault_of_limit limit) result → ComesWhere (AreWithin inputs × meaning.passes inputs limit) (status_of_limit limit) (status_of_fault told)
+refusal_past meaning inputs told result limits.Spent is within exact = comes told Spent result is (λ m. m.1) (λ m. (within, m)) exact
+refusal_past meaning inputs told result limits.Kept is within exact = comes told Kept result is (λ m. m.1) (λ m. (within, m)) exact
+
+refusal_caused : (command : Command) (options : RunOptions) (inputs : Inputs) (told : RunFault) (result : Result (Vec ℕ Global) RunFault) → result ≡ Err told → AreWithin inputs → Answers (meaning_by command options) inputs result → IsCaused (meaning_by command options) inputs (status_of_fault told)
+refusal_caused command options inputs told result is within answers = record {
+  too_large = λ what. comes told (TooLarge what) result is (past_limit (meaning_by command options) inputs what within) (λ l. inr (within, l)) (answers.too_large what);
   bad_input = λ line. comes told (BadInput line) result is (λ m. m.1) (λ m. (within, m)) (answers.malformed line);
-  spent = comes told Spent result is (λ m. m.1) (λ m. (within, m)) answers.unfinished;
+  past = λ limit. refusal_past (meaning_by command options) inputs told result limit is within (answers.passes limit);
 }
 
-pub refusal_by_held : (command : Command) (held : Option Inputs) (read : Inputs) (told : RunFault) → IfSome held (λ inputs. read ≡ inputs) → AreWithin read
-    → Answers (meaning_by command) read (Err told) → IfSome held (λ inputs. IsCaused (meaning_by command) inputs (status_of_fault told))
-refusal_by_held command held read told same within answers = at_inputs held read _ same (refusal_caused command read told (Err told) refl within answers)
+pub refusal_by_held : (command : Command) (options : RunOptions) (held : Option Inputs) (read : Inputs) (told : RunFault) → IfSome held (λ inputs. read ≡ inputs) → AreWithin read
+    → Answers (meaning_by command options) read (Err told) → IfSome held (λ inputs. IsCaused (meaning_by command options) inputs (status_of_fault told))
+refusal_by_held command options held read told same within answers = at_inputs held read _ same (refusal_caused command options read told (Err told) refl within answers)
 
 -- ---- nor is there one where it is written
 
@@ -111,7 +140,7 @@ cut_caused : (meaning : CommandMeaning) (inputs : Inputs) → IsCaused meaning i
 cut_caused meaning inputs caused = record {
   too_large = λ what. never _ _ (λ e. cc) (no_cause _ (λ e. cc) (caused.too_large what));
   bad_input = λ line. never _ _ (λ e. cc) (no_cause _ (λ e. cc) (caused.bad_input line));
-  spent = never _ _ (λ e. cc) (no_cause _ (λ e. cc) caused.spent);
+  past = λ limit. never _ _ (not_write_fault limit) (no_cause _ (not_ok limit) (caused.past limit));
 }
 
 written_caused : (meaning : CommandMeaning) (inputs : Inputs) (status : Status) → writes status ≡ true → IsCaused meaning inputs statuses.Ok → IsCaused meaning inputs status
@@ -142,26 +171,66 @@ passed_limit net Nets p = absurd p
 passed_limit net Horizon p = absurd p
 passed_limit net Size p = absurd p
 
-line_told : (command : Command) (inputs : Inputs) (line : ℕ) → (meaning_by command).malformed inputs line → (meaning_by command).lines line
-line_told Flow inputs line m = m.from_one
-line_told Classify inputs line m = m.is_first.from_one
-line_told Help inputs line m = m
-line_told Version inputs line m = m
+line_told : (command : Command) (options : RunOptions) (inputs : Inputs) (line : ℕ) → (meaning_by command options).malformed inputs line → (meaning_by command options).lines line
+line_told Flow options inputs line m = m.from_one
+line_told Classify options inputs line m = m.is_first.from_one
+line_told Help options inputs line m = m
+line_told Version options inputs line m = m
 
-limit_told : (command : Command) (inputs : Inputs) (what : What) → (meaning_by command).too_large inputs what → (meaning_by command).limits what
-limit_told Flow inputs what l = passed_limit l.net what l.passes
-limit_told Classify inputs what l = absurd l
-limit_told Help inputs what l = l
-limit_told Version inputs what l = l
+limit_told : (command : Command) (options : RunOptions) (inputs : Inputs) (what : What) → (meaning_by command options).too_large inputs what → (meaning_by command options).limits what
+limit_told Flow options inputs what l = passed_limit l.net what l.passes
+limit_told Classify options inputs what l = absurd l
+limit_told Help options inputs what l = l
+limit_told Version options inputs what l = l
 
-run_on_told : (command : Command) (inputs : Inputs) → (meaning_by command).unfinished inputs → (meaning_by command).runs_on
-run_on_told Flow inputs u = tt
-run_on_told Classify inputs u = u
-run_on_told Help inputs u = u
-run_on_told Version inputs u = u
+run_on_told : (command : Command) (options : RunOptions) (inputs : Inputs) (limit : Limit) → (meaning_by command options).passes inputs limit → (meaning_by command options).runs_on
+run_on_told Flow options inputs limit p = tt
+run_on_told Classify options inputs limit p = p
+run_on_told Help options inputs limit p = p
+run_on_told Version options inputs limit p = p
 
-pub fault_told : (command : Command) (inputs : Inputs) (fault : RunFault) → Answers (meaning_by command) inputs (Err fault) → IsAnswer (meaning_by command) (status_of_fault fault)
-fault_told command inputs (BadInput line) answers = line_told command inputs line ((answers.malformed line).only refl)
-fault_told command inputs (TooLarge what) answers = inr (limit_told command inputs what ((answers.too_large what).only refl))
-fault_told command inputs Spent answers = run_on_told command inputs (answers.unfinished.only refl)
-fault_told command inputs NoMemory answers = tt
+pub fault_told : (command : Command) (options : RunOptions) (inputs : Inputs) (fault : RunFault) → Answers (meaning_by command options) inputs (Err fault) → IsAnswer (meaning_by command options) (status_of_fault fault)
+fault_told command options inputs (BadInput line) answers = line_told command options inputs line ((answers.malformed line).only refl)
+fault_told command options inputs (TooLarge what) answers = inr (limit_told command options inputs what ((answers.too_large what).only refl))
+fault_told command options inputs Spent answers = run_on_told command options inputs limits.Spent ((answers.passes limits.Spent).only refl)
+fault_told command options inputs Kept answers = run_on_told command options inputs limits.Kept ((answers.passes limits.Kept).only refl)
+fault_told command options inputs NoMemory answers = tt
+
+-- ---- where nothing is wrong with the inputs, none of these is told
+
+no_line : (command : Command) (options : RunOptions) (inputs : Inputs) (line : ℕ) → (meaning_by command options).ends inputs → (meaning_by command options).malformed inputs line → ⊥
+no_line Flow options inputs line e m = read_or_faulty _ e.net line e.is_read m
+no_line Classify options inputs line e m = no_fault_of_a_table all_kinds _ e.kind e.rows line m.fault e.is_table m.is_first
+no_line Help options inputs line e m = m
+no_line Version options inputs line e m = m
+
+no_large : (command : Command) (options : RunOptions) (inputs : Inputs) (what : What) → (meaning_by command options).ends inputs → (meaning_by command options).too_large inputs what → ⊥
+no_large Flow options inputs what e l = read_or_large _ e.net what e.is_read l
+no_large Classify options inputs what e l = l
+no_large Help options inputs what e l = l
+no_large Version options inputs what e l = l
+
+no_past : (command : Command) (options : RunOptions) (inputs : Inputs) (limit : Limit) → (meaning_by command options).ends inputs → (meaning_by command options).passes inputs limit → ⊥
+no_past Flow options inputs limit e p = stays_or_passes options _ limit e p
+no_past Classify options inputs limit e p = p
+no_past Help options inputs limit e p = p
+no_past Version options inputs limit e p = p
+
+completes : (command : Command) (options : RunOptions) (inputs : Inputs) (status : Status) → status ≢ statuses.Usage → IsCaused (meaning_by command options) inputs status
+    → IsAnswer (meaning_by command options) status → Completes (meaning_by command options) inputs status
+completes command options inputs statuses.Ok u caused answer w e = inl refl
+completes command options inputs statuses.Usage u caused answer w e = absurd (u refl)
+completes command options inputs (statuses.BadInput line) u caused answer w e = absurd (no_line command options inputs line e ((caused.bad_input line).only refl).1)
+completes command options inputs statuses.ReadFault u caused answer w e = inr (inr (inl refl))
+completes command options inputs statuses.WriteFault u caused answer w e = inr (inl refl)
+completes command options inputs statuses.NoMemory u caused answer w e = inr (inr (inr refl))
+completes command options inputs (statuses.TooLarge what) u caused answer w e =
+    absurd (not_too_large (meaning_by command options) inputs what w (λ l. no_large command options inputs what e l) ((caused.too_large what).only refl))
+completes command options inputs statuses.Spent u caused answer w e = absurd (no_past command options inputs limits.Spent e ((caused.past limits.Spent).only refl).1)
+completes command options inputs statuses.Kept u caused answer w e = absurd (no_past command options inputs limits.Kept e ((caused.past limits.Kept).only refl).1)
+completes command options inputs (statuses.BadTable why) u caused answer w e = absurd answer
+
+pub completes_by_held : (command : Command) (options : RunOptions) (held : Option Inputs) (status : Status) → status ≢ statuses.Usage → IfSome held (λ inputs. IsCaused (meaning_by command options) inputs status)
+    → IsAnswer (meaning_by command options) status → IfSome held (λ inputs. Completes (meaning_by command options) inputs status)
+completes_by_held command options None status u caused answer = tt
+completes_by_held command options (Some inputs) status u caused answer = completes command options inputs status u caused answer

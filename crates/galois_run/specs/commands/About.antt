@@ -1,5 +1,5 @@
 -- What the words that stand alone write: texts, whatever else there is.
-use Rattle.std.specs.Prelude.{◌≡◌, ℕ, List, [], ◌∷◌, ◌++◌, codes}
+use Rattle.std.specs.Prelude.{◌≡◌, ℕ, List, [], ◌∷◌, ◌++◌, codes, ⊤}
 use Rattle.std.specs.List.{flat_map}
 use Rattle.galois_run.specs.CommandMeaning.{CommandMeaning}
 
@@ -16,9 +16,14 @@ help_lines =
     ∷ codes "  --help          write this text"
     ∷ codes "  --version       write the name and the version of the program"
     ∷ codes ""
-    ∷ codes "No command has options yet."
-    ∷ codes ""
     ∷ codes "FILE is a word that isn't empty and doesn't begin with --."
+    ∷ codes ""
+    ∷ codes "Options of flow, in any order, each at most once:"
+    ∷ codes "  --virtual N     how many virtual workers run it, from 1 to 64; default 1"
+    ∷ codes "  --turns N       how many turns are scheduled, from 0 to 1000000; default 0"
+    ∷ codes "  --seed N        the seed of the schedule, 1 to 18 digits; default 0"
+    ∷ codes "  --trace on      write a line for each scheduled turn; default off"
+    ∷ codes "  --told on       write a line for each conflict; default off"
     ∷ codes ""
     ∷ codes "Statuses, each with its line on standard error:"
     ∷ codes "  0   the output was written whole"
@@ -33,10 +38,13 @@ help_lines =
     ∷ codes "  6   galois: too large: WHAT"
     ∷ codes "      the file, or its nodes or arcs, are more than may be"
     ∷ codes "  7   galois: spent"
-    ∷ codes "      4194304 items have committed, and another is ready"
+    ∷ codes "      4194304 items have committed, and another would"
+    ∷ codes "  8   galois: kept"
+    ∷ codes "      with one more commit more than 8388608 calls would have committed"
     ∷ codes ""
-    ∷ codes "Example:"
+    ∷ codes "Examples:"
     ∷ codes "  galois flow examples/four-nodes.max"
+    ∷ codes "  galois flow examples/conflict.max --virtual 2 --turns 22 --trace on"
     ∷ []
 
 abbrev pub help_text : List ℕ
@@ -51,7 +59,8 @@ told_meaning text = record {
   reported = λ inputs report. report ≡ text;
   malformed = λ inputs line. ⊥;
   too_large = λ inputs what. ⊥;
-  unfinished = λ inputs. ⊥;
+  passes = λ inputs limit. ⊥;
+  ends = λ inputs. ⊤;
   lines = λ line. ⊥;
   limits = λ what. ⊥;
   runs_on = ⊥;

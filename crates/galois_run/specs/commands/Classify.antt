@@ -51,18 +51,25 @@ pub record IsClassReport (wanted : List Kind) (bytes report : List ℕ) : Type 0
   pub is_table : IsTableText wanted bytes kind rows
   pub is_report : IsClassText kind (row_of rows) report
 
+-- the file is the text of a table of one of the wanted kinds
+pub record IsTable (wanted : List Kind) (bytes : List ℕ) : Type 0 where
+  pub kind : Kind
+  pub rows : RowMap
+  pub is_table : IsTableText wanted bytes kind rows
+
 -- the file is no text of a table of one of the wanted kinds, and this is the first line with a fault
 pub record IsFaultyTable (wanted : List Kind) (bytes : List ℕ) (line : ℕ) : Type 0 where
   pub fault : Fault
   pub is_first : IsFirstFault wanted bytes line fault
 
--- a table of any kind is wanted; lines are counted from 1, no table is too large, and nothing runs on
+-- a table of any kind is wanted; lines are counted from 1, no table is too large, and nothing commits
 abbrev pub classify_meaning : CommandMeaning
 classify_meaning = record {
   reported = λ inputs report. IsClassReport all_kinds (main_of inputs) report;
   malformed = λ inputs line. IsFaultyTable all_kinds (main_of inputs) line;
   too_large = λ inputs what. ⊥;
-  unfinished = λ inputs. ⊥;
+  passes = λ inputs limit. ⊥;
+  ends = λ inputs. IsTable all_kinds (main_of inputs);
   lines = λ line. 1 ≤ line;
   limits = λ what. ⊥;
   runs_on = ⊥;

@@ -4,11 +4,12 @@ ghost use Rattle.std.specs.Prelude.{◌≡◌, ℕ, Err, IfOk, OnOk, [], ◌∷�
 ghost use Rattle.gx_base.specs.Conditions.{condition_of};
 ghost use Rattle.gx_base.specs.TableRows.{row_of};
 ghost use Rattle.gx_base.specs.declared.inputs.What.{What};
+ghost use Rattle.speculation.specs.Limits.{Limit};
 ghost use Rattle.galois_run.specs.Inputs.{inputs_in};
 ghost use Rattle.cond_syntax.specs.TableTexts.{all_kinds};
 ghost use Rattle.galois_run.specs.commands.Classify.{class_text, pair_line, first_lines, rows_text, IsClassText, IsClassReport, IsFaultyTable, classify_meaning};
 ghost use Rattle.line_writer.specs.Lines.{line};
-ghost use Rattle.galois_run.specs.RunFaults.{fault_of_text, FaultsWhere, Answers};
+ghost use Rattle.galois_run.specs.RunFaults.{fault_of_text, fault_of_limit, FaultsWhere, Answers};
 ghost use Rattle.galois_run.specs.declared.run_faults.RunFault.TheVariants as faults;
 
 use crate::commands::mode_lines::mode_lines;
@@ -155,7 +156,7 @@ fn classify_bytes(alloc: Global, bytes: &[u8]) -> Result<Vec<u8>, RunFault>
     ensures reported { IfOk result (λ text. IsClassReport all_kinds bytes.now text.items) }
     ensures faulty { (line : ℕ) → FaultsWhere (IsFaultyTable all_kinds bytes.now line) (faults.BadInput line) result }
     ensures small { (what : What) → result ≡ Err (faults.TooLarge what) → ⊥ }
-    ensures ends { result ≡ Err faults.Spent → ⊥ }
+    ensures ends { (limit : Limit) → result ≡ Err (fault_of_limit limit) → ⊥ }
 {
     match read_table(alloc, bytes, &kinds()) {
         Ok((kind, table)) => Ok(classify(alloc, kind, &table)?),

@@ -1,0 +1,61 @@
+-- A run passes one limit first, whatever number of turns is looked at, or none.
+use Rattle.std.specs.Prelude.{◌≡◌, ℕ, zero, suc, Bool, true, false, if◌then◌else◌, Option, Some, None, List, refl}
+use Rattle.std.proofs.Common.{sym, ◌∙◌, ap, subst}
+use Rattle.gx_base.specs.Plans.{Operator}
+use Rattle.speculation.specs.Machines.{Machine, turn}
+use Rattle.speculation.specs.ScheduledRuns.{is_empty, begun, alone, drained, played}
+use Rattle.speculation.specs.Limits.{Limit, limit_in, or_later, limit_of_scheduled, limit_of_alone, limit_of_played}
+
+some_is : (a b : Limit) → Some a ≡ Some b → a ≡ b
+some_is a b e = cc
+
+no_limit : {A : Type 0} (limit : Limit) → None ≡ Some limit → A
+no_limit limit e = absurd (cc)
+
+-- of two answers that begin alike, the later ones decide
+once_by : (first later later' : Option Limit) (a b : Limit) → (later ≡ Some a → later' ≡ Some b → a ≡ b) → or_later first later ≡ Some a → or_later first later' ≡ Some b → a ≡ b
+once_by None later later' a b more p q = more p q
+once_by (Some limit) later later' a b more p q = some_is a b (sym p ∙ q)
+
+never_by : (first later later' : Option Limit) (a : Limit) → (later ≡ None → later' ≡ Some a → ⊥) → or_later first later ≡ None → or_later first later' ≡ Some a → ⊥
+never_by None later later' a more p q = more p q
+never_by (Some limit) later later' a more p q = no_limit limit (sym p)
+
+module _ (op : Operator) where
+  once_alone : (m : Machine) (turns turns' : ℕ) (a b : Limit) → limit_of_alone op m turns ≡ Some a → limit_of_alone op m turns' ≡ Some b → a ≡ b
+  unfolding limit_of_alone
+  once_alone m zero turns' a b p q = no_limit a p
+  once_alone m (suc turns) zero a b p q = no_limit b q
+  once_alone m (suc turns) (suc turns') a b p q = by_ready (once_alone (turn op m 0) turns turns' a b) (is_empty m.book.ready) p q
+    where
+      by_ready : (limit_of_alone op (turn op m 0) turns ≡ Some a → limit_of_alone op (turn op m 0) turns' ≡ Some b → a ≡ b) → (empty : Bool) → (if empty then None else or_later (limit_in op m 0) (limit_of_alone op (turn op m 0) turns)) ≡ Some a
+          → (if empty then None else or_later (limit_in op m 0) (limit_of_alone op (turn op m 0) turns')) ≡ Some b → a ≡ b
+      by_ready later true p q = no_limit a p
+      by_ready later false p q = once_by (limit_in op m 0) _ _ a b later p q
+
+  none_empty : (m : Machine) (turns : ℕ) (a : Limit) → is_empty m.book.ready ≡ true → limit_of_alone op m turns ≡ Some a → ⊥
+  unfolding limit_of_alone
+  none_empty m zero a e p = no_limit a p
+  none_empty m (suc turns) a e p = no_limit a (sym (ap (λ (empty : Bool). if empty then None else or_later (limit_in op m 0) (limit_of_alone op (turn op m 0) turns)) e) ∙ p)
+
+  never_alone : (m : Machine) (turns turns' : ℕ) (a : Limit) → limit_of_alone op m turns ≡ None → is_empty (alone op m turns).book.ready ≡ true → limit_of_alone op m turns' ≡ Some a → ⊥
+  unfolding limit_of_alone alone
+  never_alone m zero turns' a n e p = none_empty m turns' a e p
+  never_alone m (suc turns) zero a n e p = no_limit a p
+  never_alone m (suc turns) (suc turns') a n e p = by_ready (never_alone (turn op m 0) turns turns' a) (is_empty m.book.ready) n e p
+    where
+      by_ready : (limit_of_alone op (turn op m 0) turns ≡ None → is_empty (alone op (turn op m 0) turns).book.ready ≡ true → limit_of_alone op (turn op m 0) turns' ≡ Some a → ⊥) → (empty : Bool) → (if empty then None else or_later (limit_in op m 0) (limit_of_alone op (turn op m 0) turns)) ≡ None
+          → is_empty (Machine.book (if empty then m else alone op (turn op m 0) turns)).ready ≡ true
+          → (if empty then None else or_later (limit_in op m 0) (limit_of_alone op (turn op m 0) turns')) ≡ Some a → ⊥
+      by_ready later true n e p = no_limit a p
+      by_ready later false n e p = never_by (limit_in op m 0) _ _ a (λ n' p'. later n' e p') n p
+
+  pub once : (m : Machine) (workers : ℕ) (schedule : List ℕ) (turns turns' : ℕ) (a b : Limit) → limit_of_played op m workers schedule turns ≡ Some a → limit_of_played op m workers schedule turns' ≡ Some b → a ≡ b
+  unfolding limit_of_played
+  once m workers schedule turns turns' a b p q = once_by (limit_of_scheduled op (begun m) schedule) _ _ a b (once_alone (drained op m workers schedule).machine turns turns' a b) p q
+
+  pub never : (m : Machine) (workers : ℕ) (schedule : List ℕ) (turns turns' : ℕ) (a : Limit) → limit_of_played op m workers schedule turns ≡ None
+      → is_empty (played op m workers schedule turns).machine.book.ready ≡ true → limit_of_played op m workers schedule turns' ≡ Some a → ⊥
+  unfolding limit_of_played played
+  never m workers schedule turns turns' a n e p =
+      never_by (limit_of_scheduled op (begun m) schedule) _ _ a (λ n' p'. never_alone (drained op m workers schedule).machine turns turns' a n' e p') n p

@@ -1,0 +1,10 @@
+use Rattle.flow_graph.specs.FlowState.{state_of}
+use Rattle.galois_run.proofs.meanings.NetworkRooms.{gate_taken, book_taken}
+use Rattle.galois_run.proofs.network_runs.taken_out.Goals as goal
+
+pub loop-value-preserved-in-Continue-1 : goal.loop-value-preserved-in-Continue-1
+loop-value-preserved-in-Continue-1 c =
+    gate_taken state_of c.loop-value.yielded c.in-Some.value c.in-Object.gate c.loop-value.shards.items _ c.into_object.result _ _ c.in-Object.is c.loop-value.invariant c.in_ok-push-in-Object.ensures.items c.into_object.ensures
+
+pub loop-value-preserved : goal.loop-value-preserved
+loop-value-preserved c = book_taken state_of c.loop-value.yielded c.in-Some.value c.in-Book.book c.loop-value.shards.items _ _ c.in-Book.is c.loop-value.invariant
