@@ -123,7 +123,7 @@ impl<O: Operator> Session<O> {
             book.put_back(self.worker, self.iter);
             self.end();
         } else {
-            self.phase = Phase::Undoing;
+            self.phase.give_up();
         }
     }
 

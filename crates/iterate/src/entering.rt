@@ -66,6 +66,6 @@ pub fn leave_book<R: Rooms<Value<T, S>>, T: SeqType, S: Screen<T>>(rooms: &mut R
     ensures view { R.view rooms.new ≡ left tells (R.view rooms.old) (R.view rooms.old).book (values.Book book) }
     ensures loan { R.loan rooms.new ≡ R.loan rooms.old }
 {
-    let room = rooms.book();
-    rooms.leave(room, Value::Book(book));
+    let home = rooms.book();
+    rooms.leave(home, Value::Book(book));
 }

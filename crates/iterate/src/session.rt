@@ -4,6 +4,7 @@ ghost use Rattle.iterate.specs.Places.{IsFit};
 ghost use Rattle.iterate.specs.PlayedTurns.{with_left_off};
 ghost use Rattle.iterate.specs.SessionViews.{view_of, begun_view, is_idle_view};
 ghost use Rattle.iterate.specs.Turns.{HasTurned};
+ghost use Rattle.iterate.specs.declared.session.Phase.TheVariants as phases;
 
 use crate::events::{Event, Stop};
 use crate::releases::Releases;
@@ -32,6 +33,15 @@ pub enum Phase<St: Drop> {
     },
     /// The calls of the log are still to be taken back, and then the item to be put back.
     Undoing,
+}
+
+impl<St: Drop> Phase<St> {
+    // An iteration gives up: its calls are to be taken back, whatever the body was at.
+    pub(crate) fn give_up(&mut self)
+        ensures { self.new ≡ phases.Undoing }
+    {
+        *self = Phase::Undoing;
+    }
 }
 
 /// A worker: its present iteration, and what the body of that has done.

@@ -104,7 +104,7 @@ impl<O: Operator> Session<O> {
         ensures gave_up { GaveUp (R.view rooms.old) (R.view rooms.new) (core_of self.old) (core_of self.new) self.new.phase }
         ensures loan { R.loan rooms.new ≡ R.loan rooms.old }
     {
-        self.phase = Phase::Undoing;
+        self.phase.give_up();
         if has_no_step(&self.log) {
             let _ = self.put_back(rooms);
         }

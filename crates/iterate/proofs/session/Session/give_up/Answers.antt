@@ -20,4 +20,4 @@ gave_up a b old new phase false n visited over lost = owes n (lost refl).0 (lost
 
 pub returns-then-has_no_step-clause-gave_up : goal.returns-then-has_no_step-clause-gave_up
 returns-then-has_no_step-clause-gave_up g c =
-    gave_up (g.R.Rooms.view c.args.rooms.now) (g.R.Rooms.view c.put_back.new.rooms) (core_of c.args.self.now) (core_of c.put_back.new.self) c.put_back.new.self.phase c.put_back.result (ap has_no_step (sym c.deref.ensures.value) ∙ sym c.has_no_step.ensures ∙ c.if-has_no_step.true) c.put_back.ensures.visited c.put_back.ensures.over c.put_back.ensures.lost
+    gave_up (g.R.Rooms.view c.args.rooms.now) (g.R.Rooms.view c.put_back.new.rooms) (core_of c.args.self.now) (core_of c.put_back.new.self) c.put_back.new.self.phase c.put_back.result (ap has_no_step (sym c.deref.ensures.value) ∙ sym c.has_no_step.ensures ∙ c.if-has_no_step.true) c.put_back.ensures.visited c.put_back.ensures.over (λ e. let h = c.put_back.ensures.lost e in (h.0, h.1, h.2 ∙ c.give_up.ensures))
