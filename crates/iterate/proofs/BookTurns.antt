@@ -1,6 +1,6 @@
 -- Turns that leave the book, and no gate.
-use Rattle.std.specs.Prelude.{◌≡◌, ◌≢◌, ◌⊎◌, ℕ, ◌<◌, ◌≤◌, Bool, true, false, ◌==◌, if◌then◌else◌, Option, Some, None, List, [], ◌∷◌, length, is_some, Result, Ok, Err, refl, ⊤}
-use Rattle.std.proofs.Common.{sym, ◌∙◌, ap, subst, inl, inr, arith}
+use Rattle.std.specs.Prelude.{◌≡◌, ℕ, true, false, Option, Some, None, List, is_some, Result, refl}
+use Rattle.std.proofs.Common.{sym, ◌∙◌, ap, subst}
 use Rattle.gx_base.specs.declared.acts.Entry.{Entry}
 use Rattle.gx_base.specs.Plans.{Operator}
 use Rattle.gx_base.specs.RoomViews.{RoomView}
@@ -10,18 +10,17 @@ use Rattle.rooms.specs.RoomsViews.{RoomsView, entered, left, is_held}
 use Rattle.rooms.specs.HandedOut.{IsHandedOut, IsLost}
 use Rattle.rooms.specs.Values.{tells}
 use Rattle.rooms.specs.declared.values.Value.{Value}
-use Rattle.rooms.specs.declared.values.Value.TheVariants.{Object, Book}
+use Rattle.rooms.specs.declared.values.Value.TheVariants.{Book}
 use Rattle.rooms.proofs.CallerLemmas.{put_same}
 use Rattle.iterate.specs.declared.events.Event.{Event as CodeEvent}
 use Rattle.iterate.specs.declared.events.Stop.{Stop}
 use Rattle.iterate.specs.Needs.{needs}
 use Rattle.iterate.specs.Places.{IsLogOf, IsFit, AreWithin, IsFitIn, IsBody, IfTold, book_of, IsBookIn, StandsOn}
 use Rattle.iterate.specs.SessionViews.{OpenCommit, SessionView}
-use Rattle.iterate.specs.SharedTurns.{Shared, shared_in, shared_turn}
-use Rattle.iterate.specs.Turns.{Answers, HasTurned, TakesTurn, IsLostIn, IsAfter, GoesWell, TellsRight}
+use Rattle.iterate.specs.Turns.{Answers, TakesTurn}
 use Rattle.iterate.specs.Visits.{BookWasVisited}
 use Rattle.iterate.proofs.Standing.{AreLeft, fits, told_book, told_book_itself, base_place, base_stands}
-use Rattle.iterate.proofs.Visiting.{SameGates, same_gates, entered_gates, lost_gates, book_gates, then_same, none_left}
+use Rattle.iterate.proofs.Visiting.{SameGates, entered_gates, lost_gates, book_gates, then_same, none_left}
 use Rattle.iterate.proofs.Turning.{held_again, no_loss, one_loss, turned}
 
 module _ {T S : Type 0} where

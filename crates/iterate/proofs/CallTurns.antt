@@ -1,12 +1,12 @@
 -- The turns of a running session.
-use Rattle.std.specs.Prelude.{◌≡◌, ◌≢◌, ℕ, zero, suc, ◌<◌, Bool, true, false, ◌&&◌, ◌||◌, ◌==◌, if◌then◌else◌, Option, Some, None, List, [], ◌∷◌, ◌++◌, length, slice_get, slice_index_or, Result, Ok, Err, refl, ⊤}
+use Rattle.std.specs.Prelude.{◌≡◌, ℕ, zero, suc, ◌<◌, Bool, true, false, ◌&&◌, ◌==◌, if◌then◌else◌, Option, Some, None, List, [], ◌∷◌, ◌++◌, slice_get, slice_index_or, Ok, Err, refl}
 use Rattle.std.proofs.Common.{sym, ◌∙◌, ap, subst}
 use Rattle.gx_base.specs.declared.acts.Entry.{Entry}
 use Rattle.gx_base.specs.declared.acts.Step.{Step}
 use Rattle.gx_base.specs.declared.calls.Call.{Call as CallOf}
 use Rattle.gx_base.specs.declared.calls.Reply.{Reply}
 use Rattle.gx_base.specs.declared.items.Item.{Item}
-use Rattle.gx_base.specs.BodyRuns.{RunsTo, called}
+use Rattle.gx_base.specs.BodyRuns.{called}
 use Rattle.gx_base.specs.Plans.{Plan, Call, Operator}
 use Rattle.gx_base.specs.Replays.{put}
 use Rattle.gx_base.specs.Steps.{reply_to}
@@ -14,15 +14,14 @@ use Rattle.gx_base.specs.Worklists.{is_before}
 use Rattle.gate_core.specs.declared.refusals.Told.{Told}
 use Rattle.gate_core.specs.CallAnswers.{Tells}
 use Rattle.gate_core.specs.Views.{GateView, asked_entry, in_way, admit, rows_of, live_start}
-use Rattle.commit_book.specs.BookViews.{BookView, put_back}
+use Rattle.commit_book.specs.BookViews.{BookView}
 use Rattle.speculation.specs.Events as event
-use Rattle.speculation.specs.Machines.{Place, Turned, answer, conflict, entry_of, live_at, let_go, named_off, given_up, reply_in, turn_at}
-use Rattle.speculation.specs.Machines as machine
-use Rattle.speculation.specs.Sessions.{Session, Running, undoing, ended, undone_to, with_call, has_no_step}
+use Rattle.speculation.specs.Machines.{Place, Turned, answer, conflict, live_at, let_go, named_off, given_up, turn_at}
+use Rattle.speculation.specs.Sessions.{Running, undoing, undone_to, with_call, has_no_step}
 use Rattle.speculation.proofs.Putting.{no_bool, both_are, same_number}
 use Rattle.speculation.proofs.GateTurns.{log_admits, log_elsewhere}
 use Rattle.rooms.specs.RoomsViews.{RoomsView, is_held}
-use Rattle.rooms.specs.HandedOut.{IsHandedOut, IsLost}
+use Rattle.rooms.specs.HandedOut.{IsLost}
 use Rattle.rooms.specs.declared.values.Value.{Value}
 use Rattle.rooms.proofs.CallerLemmas.{put_same}
 use Rattle.iterate.specs.declared.events.Event.{Event as CodeEvent}
@@ -31,8 +30,8 @@ use Rattle.iterate.specs.declared.events.Stop.TheVariants as stops
 use Rattle.iterate.specs.declared.session.Phase.{Phase as CodePhase}
 use Rattle.iterate.specs.declared.session.Phase.TheVariants as code
 use Rattle.iterate.specs.Bodies.{IsAsking, IsNoted}
-use Rattle.iterate.specs.Needs.{needs, to_put_back, asks_in}
-use Rattle.iterate.specs.Places.{IsLogIn, IsLogOf, IsFit, AreWithin, IsBookIn, StandsOn}
+use Rattle.iterate.specs.Needs.{needs, to_put_back}
+use Rattle.iterate.specs.Places.{IsLogOf, IsFit, AreWithin, IsBookIn, StandsOn}
 use Rattle.iterate.specs.SessionViews.{OpenCommit, Rests, Core, SessionView, view_in}
 use Rattle.iterate.specs.SharedTurns.{Shared, cut_at, stays}
 use Rattle.iterate.specs.Turns.{TakesTurn, TellsRight, IsAfter, event_of, is_conflict}
@@ -42,8 +41,8 @@ use Rattle.iterate.proofs.Standing.{base_place, base_gates, base_book_in, base_s
 use Rattle.iterate.proofs.Visiting.{same_gates, other_than_book}
 use Rattle.iterate.proofs.Turning.{whole, no_loss}
 use Rattle.iterate.proofs.BookTurns.{free_of, body_of, lost_turn}
-use Rattle.iterate.proofs.GateVisits.{gate_place, gate_stands, gate_turn, gate_log, gate_visit_free, gate_visit_lost, gate_visit_book}
-use Rattle.iterate.proofs.GivingUp.{Quiet, quiet_itself, quiet_visit, gave_up_turn}
+use Rattle.iterate.proofs.GateVisits.{gate_stands, gate_turn, gate_log, gate_visit_free, gate_visit_lost, gate_visit_book}
+use Rattle.iterate.proofs.GivingUp.{Quiet, quiet_visit, gave_up_turn}
 use Rattle.iterate.proofs.UndoTurns.{over, or_left, or_right, unless_true, where_true}
 
 abbrev pub asked_call : ℕ → CallOf → Option (ℕ × CallOf)
@@ -166,8 +165,7 @@ module _ {T S St : Type 0} (op : Operator) (a b : RoomsView (Value T S)) (rest :
   pub call_lost : IsFit op a asking → IsLost a b room → TakesTurn op a b asking asking (Ok events.Busy)
   call_lost fit loss =
       let shared : cut_at op a.book (base_place a asking) c.worker asking.at c.pushed (Running plan) room ≡ stays (base_place a asking) asking.at c.pushed = unless_book a.book (base_place a asking) c.pushed (not_book fit) in
-      lost_turn op a b asking asking room loss fit refl refl refl needs_room (λ other es h. h) fit.within (body_of op a asking fit refl) (Ok events.Busy)
-      (
+      lost_turn op a b asking asking room loss fit refl refl refl needs_room (λ other es h. h) fit.within (body_of op a asking fit refl) (Ok events.Busy) (
         subst (λ (x : Shared). IsAfter x event.Busy asking (base_place a asking)) (sym shared) (record { event_is = refl; place_is = refl; opened_is = refl; pushed_is = refl }),
         tt,
         (λ e. absurd (no_bool (a.book == room) e (not_book fit))),
@@ -260,7 +258,7 @@ module _ {T S St : Type 0} (op : Operator) (a b : RoomsView (Value T S)) (rest :
       refl refl refl (right bk))
       (λ n. (
         subst (λ (y : Shared). IsAfter y (event_of e) (view_in rest c code.Undoing) (record { gates = gates; book = base_book_in a None; session = undoing s.at })) (sym (at_book a.book (at gates (base_book_in a None)) c.pushed))
-        (record { event_is = told_so ∙ ap (λ (y : Turned). y.event) (sym (turns (base_book_in a None))); place_is = refl; opened_is = refl; pushed_is = refl }),
+            (record { event_is = told_so ∙ ap (λ (y : Turned). y.event) (sym (turns (base_book_in a None))); place_is = refl; opened_is = refl; pushed_is = refl }),
         right (base_book_in a None),
         (λ k. ap (λ (y : Turned). is_conflict y.event) (turns (base_book_in a None))),
       ))

@@ -1,9 +1,8 @@
 -- The turn in which a finished session begins its commit.
-use Rattle.std.specs.Prelude.{◌≡◌, ◌≢◌, ◌⊎◌, ℕ, ◌<◌, ◌≤◌, nat_lt, Bool, true, false, not, ◌&&◌, ◌||◌, ◌==◌, if◌then◌else◌, Option, Some, None, List, [], ◌∷◌, ◌++◌, length, is_some, Result, Ok, Err, refl, ⊤}
+use Rattle.std.specs.Prelude.{◌≡◌, ℕ, ◌<◌, ◌≤◌, nat_lt, Bool, true, false, ◌||◌, ◌==◌, if◌then◌else◌, Option, Some, None, List, [], ◌∷◌, length, is_some, Ok, refl}
 use Rattle.std.proofs.Common.{sym, ◌∙◌, ap, subst, arith}
 use Rattle.std.proofs.lemmas.Bool.Decides.{nat_tests}
 use Rattle.std.specs.Cmp.{nat_eq_equiv}
-use Rattle.gx_base.specs.declared.acts.Step.{Step}
 use Rattle.gx_base.specs.Plans.{Operator}
 use Rattle.gx_base.specs.Replays.{part, put}
 use Rattle.gx_base.specs.RoomViews.{RoomView}
@@ -16,10 +15,10 @@ use Rattle.speculation.specs.Events.{Event}
 use Rattle.speculation.specs.Limits.{limit_at}
 use Rattle.speculation.specs.Limits as limits
 use Rattle.speculation.specs.Machines.{Place, Turned, committed, turn_at}
-use Rattle.speculation.specs.Sessions.{Session, Finished, ended, undoing}
+use Rattle.speculation.specs.Sessions.{Finished, ended, undoing}
 use Rattle.speculation.proofs.IterationEntries.{no_mades}
-use Rattle.speculation.proofs.Putting.{no_bool, numbers_equal, same_number}
-use Rattle.rooms.specs.RoomsViews.{RoomsView, nowhere, is_held, commits_entered, entered}
+use Rattle.speculation.proofs.Putting.{numbers_equal}
+use Rattle.rooms.specs.RoomsViews.{RoomsView, is_held, entered}
 use Rattle.rooms.specs.HandedOut.{IsHandedOut}
 use Rattle.rooms.specs.Values.{tells}
 use Rattle.rooms.specs.declared.values.Value.{Value}
@@ -28,17 +27,16 @@ use Rattle.rooms.proofs.CallerLemmas.{put_same, put_other, commits_entered_here,
 use Rattle.iterate.specs.declared.events.Event.{Event as CodeEvent}
 use Rattle.iterate.specs.declared.events.Event.TheVariants as events
 use Rattle.iterate.specs.declared.session.Phase.TheVariants as code
-use Rattle.iterate.specs.Needs.{needs}
-use Rattle.iterate.specs.Places.{IsLogIn, IsLogOf, IsFit, IsFitIn, AreWithin, IfTold, no_gate, gate_of, book_of, IsBookIn, StandsOn}
-use Rattle.iterate.specs.RoomLists.{is_among, rooms_of, steps_in, before, on_from, AreBelow}
+use Rattle.iterate.specs.Places.{IsLogIn, IsLogOf, IsFit, AreWithin, IfTold, no_gate, gate_of}
+use Rattle.iterate.specs.RoomLists.{is_among, rooms_of, steps_in, AreBelow}
 use Rattle.iterate.specs.SessionViews.{OpenCommit, Rests, Core, SessionView, view_in}
 use Rattle.iterate.specs.SharedTurns.{Shared, shared_in, released, stays, cut_at, cut_commit, begun_commit, rest_of_commit}
-use Rattle.iterate.specs.Turns.{TakesTurn, HasTurned, Answers, IsAfter, TellsRight, GoesWell, IsLostIn, event_of, limit_on, is_commit}
+use Rattle.iterate.specs.Turns.{TakesTurn, HasTurned, Answers, IsAfter, TellsRight, event_of, limit_on, is_commit}
 use Rattle.iterate.proofs.Standing.{told_book}
 use Rattle.iterate.proofs.Visiting.{other_than_book}
 use Rattle.iterate.proofs.Turning.{whole}
 use Rattle.iterate.proofs.BookTurns.{free_of, body_of}
-use Rattle.iterate.proofs.LeftRooms.{part_in, not_among}
+use Rattle.iterate.proofs.LeftRooms.{part_in}
 use Rattle.iterate.proofs.LogRooms.{rooms_rise, rooms_below, steps_in_rooms, release_nothing}
 use Rattle.iterate.proofs.FinishTurns.{MayCommit, finishes}
 use Rattle.iterate.proofs.UndoTurns.{or_right}
@@ -190,9 +188,9 @@ module _ {T S St : Type 0} (op : Operator) (a b : RoomsView (Value T S)) (rest :
     cut_is room e =
         (λ i. cut_commit p c.worker (record finished.at { outcome = record finished.at.outcome { steps = log_is i } }) c.pushed made room)
         ∙ sym (
-          ap (λ (k : Bool). if k then stays p finished.at c.pushed else (if is_named was c.worker c.iter then stays p (undoing finished.at) c.pushed else cut_commit p c.worker finished.at c.pushed (begun_commit p c.worker finished.at) room)) e
-          ∙ ap (λ (k : Bool). if k then stays p (undoing finished.at) c.pushed else cut_commit p c.worker finished.at c.pushed (begun_commit p c.worker finished.at) room) unnamed_is
-          )
+        ap (λ (k : Bool). if k then stays p finished.at c.pushed else (if is_named was c.worker c.iter then stays p (undoing finished.at) c.pushed else cut_commit p c.worker finished.at c.pushed (begun_commit p c.worker finished.at) room)) e
+        ∙ ap (λ (k : Bool). if k then stays p (undoing finished.at) c.pushed else cut_commit p c.worker finished.at c.pushed (begun_commit p c.worker finished.at) room) unnamed_is
+        )
 
     cut_answers : (t : SessionView) (q : Place) (e : CodeEvent) (room : ℕ) → (a.book == room) ≡ false → IsAfter (cut_commit inner c.worker making.at c.pushed made room) (event_of e) t q → Answers op a.book finished t p q (Some room) (Ok e)
     cut_answers t q e room n h = (

@@ -1,10 +1,8 @@
 -- The turns of a finished session.
-use Rattle.std.specs.Prelude.{◌≡◌, ◌≢◌, ◌⊎◌, ℕ, ◌<◌, ◌≤◌, Bool, true, false, not, ◌&&◌, ◌||◌, ◌==◌, if◌then◌else◌, Option, Some, None, List, [], ◌∷◌, ◌++◌, length, Result, Ok, Err, refl, ⊤}
+use Rattle.std.specs.Prelude.{◌≡◌, ◌⊎◌, ℕ, Bool, true, false, not, ◌||◌, ◌==◌, if◌then◌else◌, Option, Some, None, List, [], length, Result, Ok, Err, refl, ⊤}
 use Rattle.std.proofs.Common.{sym, ◌∙◌, ap, subst, inl, inr}
-use Rattle.gx_base.specs.declared.acts.Entry.{Entry}
 use Rattle.gx_base.specs.declared.items.Item.{Item}
 use Rattle.gx_base.specs.Plans.{Operator}
-use Rattle.gx_base.specs.RoomViews.{RoomView}
 use Rattle.gx_base.specs.Worklists.{has_item, is_least}
 use Rattle.gate_core.specs.Views.{GateView}
 use Rattle.commit_book.specs.declared.refusals.CommitRefuse.{CommitRefuse}
@@ -15,7 +13,7 @@ use Rattle.speculation.specs.Events as event
 use Rattle.speculation.specs.Limits.{Limit, limit_at}
 use Rattle.speculation.specs.Limits as limit
 use Rattle.speculation.specs.Machines.{Place, Turned, let_go, given_up, committed, undo, turn_at}
-use Rattle.speculation.specs.Sessions.{Session, Finished, undoing, undone_to, has_no_step}
+use Rattle.speculation.specs.Sessions.{Finished, undoing, undone_to, has_no_step}
 use Rattle.speculation.proofs.Putting.{no_bool, same_number}
 use Rattle.speculation.proofs.Steps.{is_none}
 use Rattle.rooms.specs.RoomsViews.{RoomsView, entered, left as rooms_left}
@@ -26,16 +24,13 @@ use Rattle.rooms.specs.declared.values.Value.TheVariants.{Book}
 use Rattle.iterate.specs.declared.events.Event.{Event as CodeEvent}
 use Rattle.iterate.specs.declared.events.Event.TheVariants as events
 use Rattle.iterate.specs.declared.events.Stop.{Stop}
-use Rattle.iterate.specs.declared.events.Stop.TheVariants as stops
 use Rattle.iterate.specs.declared.session.Phase.{Phase as CodePhase}
 use Rattle.iterate.specs.declared.session.Phase.TheVariants as code
-use Rattle.iterate.specs.Needs.{needs}
-use Rattle.iterate.specs.Places.{IsLogIn, IsLogOf, IsFit}
+use Rattle.iterate.specs.Places.{IsLogIn, IsFit}
 use Rattle.iterate.specs.RoomLists.{is_among, rooms_of}
 use Rattle.iterate.specs.SessionViews.{Rests, Core, SessionView, view_in}
 use Rattle.iterate.specs.SharedTurns.{Shared, cut_at, cut_commit, begun_commit, stays}
 use Rattle.iterate.specs.Turns.{TakesTurn, Answers, IsAfter, IsCause, limit_on}
-use Rattle.iterate.specs.Visits.{BookWasVisited, MayAnswer}
 use Rattle.iterate.proofs.Standing.{base_place}
 use Rattle.iterate.proofs.Turning.{whole}
 use Rattle.iterate.proofs.BookTurns.{body_of, book_place, book_turn, book_visited, lost_turn}
@@ -101,10 +96,6 @@ free_by true false false e = record { is_ready = refl; not_spent = refl; not_pas
 pub free_of : (b : BookView) (item : Item) (steps : ℕ) → b.ordered ≡ false → refusal b item steps ≡ None → MayCommit (has_item b.ready item) (is_spent b) (is_past_journal b steps)
 free_of b item steps o e = free_by (has_item b.ready item) (is_spent b) (is_past_journal b steps) (sym (refuses b item steps o) ∙ e)
 
--- the limits, by the same facts
-limit_by : Bool → Bool → Option Limit
-limit_by spent past = if spent then Some limit.Spent else (if past then Some limit.Kept else None)
-
 module _ {T S St : Type 0} (op : Operator) (a b : RoomsView (Value T S)) (rest : Rests St) (c : Core) where
   abbrev finished : SessionView
   finished = view_in rest c code.Finished
@@ -131,8 +122,7 @@ module _ {T S St : Type 0} (op : Operator) (a b : RoomsView (Value T S)) (rest :
       let p : Place = base_place a finished in
       let shared : cut_at op a.book p c.worker finished.at c.pushed Finished a.book ≡ stays p finished.at c.pushed =
       ap (λ (k : Bool). if k then stays p finished.at c.pushed else (if is_named p.book c.worker c.iter then stays p (undoing finished.at) c.pushed else cut_commit p c.worker finished.at c.pushed (begun_commit p c.worker finished.at) a.book)) (same_number a.book) in
-      lost_turn op a b finished finished a.book loss fit refl refl refl (or_left (a.book == a.book) (is_among (rooms_of c.log) a.book) (same_number a.book)) (λ other es h. h) fit.within (body_of op a finished fit refl) (Ok events.Busy)
-      (
+      lost_turn op a b finished finished a.book loss fit refl refl refl (or_left (a.book == a.book) (is_among (rooms_of c.log) a.book) (same_number a.book)) (λ other es h. h) fit.within (body_of op a finished fit refl) (Ok events.Busy) (
         subst (λ (x : Shared). IsAfter x event.Busy finished p) (sym shared) (record { event_is = refl; place_is = refl; opened_is = refl; pushed_is = refl }),
         tt,
         (λ e. absurd (no_bool (a.book == a.book) (same_number a.book) e)),
@@ -194,7 +184,7 @@ module _ {T S St : Type 0} (op : Operator) (a b : RoomsView (Value T S)) (rest :
           may = refl;
           cause = cause;
           place_is = (λ i. record { gates = p.gates; book = was; session = record undoing_view.at { outcome = record { steps = c.log; pushes = none i; withdrawn = [] } } })
-          ∙ sym (unless_true (has_no_step c.log) (let_go p c.worker finished.at) (record { gates = p.gates; book = was; session = undone_to finished.at c.log }) e);
+              ∙ sym (unless_true (has_no_step c.log) (let_go p c.worker finished.at) (record { gates = p.gates; book = was; session = undone_to finished.at c.log }) e);
           opened_is = refl;
           pushed_is = refl;
         })

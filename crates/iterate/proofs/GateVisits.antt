@@ -1,6 +1,6 @@
 -- Turns that leave one gate.
-use Rattle.std.specs.Prelude.{◌≡◌, ◌≢◌, ◌⊎◌, ℕ, ◌<◌, ◌≤◌, Bool, true, false, ◌==◌, if◌then◌else◌, Option, Some, None, List, [], ◌∷◌, length, is_some, Result, Ok, Err, refl, ⊤}
-use Rattle.std.proofs.Common.{sym, ◌∙◌, ap, subst, inl, inr, arith}
+use Rattle.std.specs.Prelude.{◌≡◌, ℕ, ◌<◌, Bool, true, false, ◌==◌, Option, None, List, is_some, Result, refl}
+use Rattle.std.proofs.Common.{sym, ◌∙◌, ap, subst, arith}
 use Rattle.gx_base.specs.declared.acts.Entry.{Entry}
 use Rattle.gx_base.specs.Plans.{Operator}
 use Rattle.gx_base.specs.Replays.{put}
@@ -10,10 +10,10 @@ use Rattle.commit_book.specs.BookViews.{BookView}
 use Rattle.speculation.specs.Machines.{Place}
 use Rattle.speculation.proofs.Putting.{numbers_equal}
 use Rattle.rooms.specs.RoomsViews.{RoomsView, entries_for, entered, left, is_held}
-use Rattle.rooms.specs.HandedOut.{IsHandedOut, IsTold, IsLost}
+use Rattle.rooms.specs.HandedOut.{IsHandedOut}
 use Rattle.rooms.specs.Values.{tells}
 use Rattle.rooms.specs.declared.values.Value.{Value}
-use Rattle.rooms.specs.declared.values.Value.TheVariants.{Object, Book}
+use Rattle.rooms.specs.declared.values.Value.TheVariants.{Object}
 use Rattle.rooms.proofs.CallerLemmas.{put_same, put_other}
 use Rattle.iterate.specs.declared.events.Event.{Event as CodeEvent}
 use Rattle.iterate.specs.declared.events.Stop.{Stop}
@@ -22,10 +22,9 @@ use Rattle.iterate.specs.SessionViews.{OpenCommit, SessionView}
 use Rattle.iterate.specs.Turns.{OthersStay, Answers, TakesTurn, IsLostIn}
 use Rattle.iterate.specs.Visits.{WasVisited}
 use Rattle.iterate.proofs.Logs.{log_shown}
-use Rattle.iterate.proofs.Standing.{AreLeft, fits, told_gate, base_gates, base_book_in, base_place, base_stands}
-use Rattle.iterate.proofs.Visiting.{SameGates, same_gates, then_same, one_left, other_than_room}
-use Rattle.iterate.proofs.Turning.{held_again, no_loss, one_loss, turned}
-use Rattle.iterate.proofs.BookTurns.{free_of}
+use Rattle.iterate.proofs.Standing.{AreLeft, fits, told_gate, base_gates, base_stands}
+use Rattle.iterate.proofs.Visiting.{SameGates, one_left, other_than_room}
+use Rattle.iterate.proofs.Turning.{held_again, turned}
 
 module _ {T S : Type 0} where
   abbrev pub gate_place : RoomsView (Value T S) → SessionView → (room : ℕ) → GateView → BookView → Place
@@ -108,6 +107,3 @@ module _ {T S : Type 0} where
     gate_visit_book below bk h =
         subst (λ (o : Option (Value T S)). IfTold o (λ value. bk ≡ book_of value))
         (sym ((λ i. b.told (field_of (λ v. v.book) i)) ∙ field_of (λ v. v.told a.book) ∙ put_other a.told room _ a.book (other_than_room room a.book below))) h
-
-    pub gate_visit_names : b.book ≡ a.book
-    gate_visit_names = field_of (λ v. v.book)

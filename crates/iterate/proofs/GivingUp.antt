@@ -1,8 +1,7 @@
 -- Turns in which an iteration gives up.
-use Rattle.std.specs.Prelude.{◌≡◌, ◌≢◌, ℕ, ◌<◌, Bool, true, false, ◌==◌, if◌then◌else◌, Option, Some, None, List, [], ◌∷◌, length, is_some, Result, Ok, Err, refl, ⊤}
+use Rattle.std.specs.Prelude.{◌≡◌, ◌≢◌, ℕ, ◌<◌, Bool, true, false, ◌==◌, Option, Some, None, List, [], is_some, Result, refl}
 use Rattle.std.proofs.Common.{sym, ◌∙◌, ap, subst}
 use Rattle.gx_base.specs.declared.acts.Entry.{Entry}
-use Rattle.gx_base.specs.declared.acts.Step.{Step}
 use Rattle.gx_base.specs.Plans.{Operator}
 use Rattle.gx_base.specs.Replays.{put}
 use Rattle.gx_base.specs.RoomViews.{RoomView}
@@ -13,11 +12,11 @@ use Rattle.speculation.specs.Sessions.{has_no_step}
 use Rattle.speculation.proofs.Putting.{numbers_equal}
 use Rattle.speculation.proofs.Steps.{is_none}
 use Rattle.rooms.specs.RoomsViews.{RoomsView, entries_for, told_with, entered, left, is_held}
-use Rattle.rooms.specs.HandedOut.{IsHandedOut, IsTold, IsLost, HasRisen}
+use Rattle.rooms.specs.HandedOut.{IsTold, IsLost, HasRisen}
 use Rattle.rooms.specs.Values.{tells}
 use Rattle.rooms.specs.declared.values.Value.{Value}
-use Rattle.rooms.specs.declared.values.Value.TheVariants.{Object, Book}
-use Rattle.rooms.proofs.CallerLemmas.{put_itself, put_same, put_other}
+use Rattle.rooms.specs.declared.values.Value.TheVariants.{Object}
+use Rattle.rooms.proofs.CallerLemmas.{put_itself, put_other}
 use Rattle.iterate.specs.declared.events.Event.{Event as CodeEvent}
 use Rattle.iterate.specs.declared.events.Stop.{Stop}
 use Rattle.iterate.specs.declared.session.Phase.{Phase as CodePhase}
@@ -27,10 +26,10 @@ use Rattle.iterate.specs.Places.{IsLogIn, IsLogOf, IsFit, AreWithin, IfTold, boo
 use Rattle.iterate.specs.SessionViews.{OpenCommit, Rests, Core, SessionView, view_in}
 use Rattle.iterate.specs.Turns.{Answers, TakesTurn, IsLostIn}
 use Rattle.iterate.specs.Visits.{WasVisited, BookWasVisited, GaveUp, has_calls, is_over, owes}
-use Rattle.iterate.proofs.Standing.{AreLeft, fits, told_book, base_gates, base_book_in, base_place, base_stands}
-use Rattle.iterate.proofs.Visiting.{SameGates, same_gates, then_same, lost_gates, none_left, other_than_room}
+use Rattle.iterate.proofs.Standing.{AreLeft, fits, told_book, base_book_in, base_stands}
+use Rattle.iterate.proofs.Visiting.{SameGates, same_gates, then_same, lost_gates, none_left}
 use Rattle.iterate.proofs.Turning.{turned, no_loss, some_number, held_again}
-use Rattle.iterate.proofs.BookTurns.{Free, free_of, book_visit_gates, book_visit_free, book_visit_lost, book_visit_told}
+use Rattle.iterate.proofs.BookTurns.{book_visit_gates, book_visit_free, book_visit_lost, book_visit_told}
 use Rattle.iterate.proofs.UndoTurns.{over}
 
 module _ {T S : Type 0} where

@@ -1,5 +1,5 @@
 -- A running session's turn, by where its body comes to.
-use Rattle.std.specs.Prelude.{◌≡◌, ◌≢◌, ◌⊎◌, ℕ, ◌<◌, Bool, true, false, ◌&&◌, ◌||◌, ◌==◌, not, if◌then◌else◌, Option, Some, None, List, [], ◌∷◌, ◌++◌, length, Result, Ok, Err, refl, ⊤}
+use Rattle.std.specs.Prelude.{◌≡◌, ◌≢◌, ℕ, ◌<◌, true, false, ◌||◌, ◌==◌, not, if◌then◌else◌, Option, Some, None, List, [], ◌∷◌, ◌++◌, length, Result, Ok, Err, refl}
 use Rattle.std.proofs.Common.{sym, ◌∙◌, ap, subst}
 use Rattle.gx_base.specs.declared.acts.Entry.{Entry}
 use Rattle.gx_base.specs.declared.acts.Step.{Step}
@@ -14,8 +14,8 @@ use Rattle.gate_core.specs.Views.{GateView, in_way, rows_of, live_start}
 use Rattle.commit_book.specs.BookViews.{BookView, is_named}
 use Rattle.speculation.specs.Events as event
 use Rattle.speculation.specs.Events.{Event}
-use Rattle.speculation.specs.Limits.{Limit, limit_at}
-use Rattle.speculation.specs.Machines.{Place, Turned, answer, ask, entry_of, committed, given_up, undo_step, undo, finish, go, turn_at}
+use Rattle.speculation.specs.Limits.{limit_at}
+use Rattle.speculation.specs.Machines.{Place, Turned, answer, ask, entry_of, committed, given_up, undo_step, finish, go, turn_at}
 use Rattle.speculation.specs.Sessions.{Session, Phase, Idle, Running, Finished, Undoing, Ahead, Asks, Ends, ahead, undoing, last_step, has_no_step}
 use Rattle.speculation.proofs.Sound.{IsSoFar}
 use Rattle.speculation.proofs.Bodies.{ComesTo, comes_to}
@@ -29,16 +29,16 @@ use Rattle.iterate.specs.declared.events.Stop.TheVariants as stops
 use Rattle.iterate.specs.declared.session.Phase.{Phase as CodePhase}
 use Rattle.iterate.specs.declared.session.Phase.TheVariants as code
 use Rattle.iterate.specs.Bodies.{IsAtWork, IsAskedIn, IsAsking, HasGoneOn}
-use Rattle.iterate.specs.Needs.{come_to, gone_on, asks_in, to_put_back, needs_in, needs}
-use Rattle.iterate.specs.Places.{IsLogIn, IsLogOf, IsFit, IsBody, IsAskedWithin, IsBookIn, StandsOn}
+use Rattle.iterate.specs.Needs.{come_to, gone_on, to_put_back, needs_in, needs}
+use Rattle.iterate.specs.Places.{IsFit, IsBody, IsAskedWithin}
 use Rattle.iterate.specs.RoomLists.{is_among, rooms_of}
-use Rattle.iterate.specs.SessionViews.{OpenCommit, Rests, Core, SessionView, at_in, view_in, phase_of}
+use Rattle.iterate.specs.SessionViews.{Rests, Core, SessionView, at_in, view_in, phase_of}
 use Rattle.iterate.specs.SharedTurns.{Shared, cut_at, shared_in, given_back, stopped_at, pushes_by}
 use Rattle.iterate.specs.Turns.{TakesTurn, HasTurned, Answers, IsAfter, TellsRight, GoesWell, IsCutIn, IsCause, event_of, limit_on, is_conflict, is_commit, may_stop_at}
 use Rattle.iterate.specs.Visits.{GaveUp}
 use Rattle.iterate.proofs.BookTurns.{free_of, body_of}
 use Rattle.iterate.proofs.CallTurns.{asked_call, stopped_turn}
-use Rattle.iterate.proofs.GivingUp.{Quiet, quiet_itself}
+use Rattle.iterate.proofs.GivingUp.{quiet_itself}
 use Rattle.iterate.proofs.UndoTurns.{or_left, or_right}
 
 -- ---- turns depend on a place's gates and book alone, where the session is given
@@ -316,11 +316,3 @@ module _ {T S St : Type 0} (op : Operator) (a b : RoomsView (Value T S)) (rest :
   go_stops code.Finished w fit k = absurd w
   go_stops (code.Committing book number left) w fit k = absurd w
   go_stops code.Undoing w fit k = absurd w
-
-  pub go_free : (f : CodePhase St) → IsAtWork f → IsFit op a (view_in rest c f) → (room : ℕ) → is_held a room ≡ false
-  go_free code.Idle w fit = absurd w
-  go_free (code.Running st last) w fit = free_of op a (view_in rest c (code.Running st last)) fit refl
-  go_free (code.Asking st x y) w fit = free_of op a (view_in rest c (code.Asking st x y)) fit refl
-  go_free code.Finished w fit = absurd w
-  go_free (code.Committing book number left) w fit = absurd w
-  go_free code.Undoing w fit = absurd w

@@ -1,14 +1,12 @@
 -- Steps by the rooms that a commit has left.
-use Rattle.std.specs.Prelude.{◌≡◌, ◌⊎◌, ℕ, ◌<◌, ◌≤◌, Bool, true, false, ◌||◌, ◌==◌, if◌then◌else◌, List, [], ◌∷◌, ◌++◌, refl, ⊤}
-use Rattle.std.proofs.Common.{sym, ◌∙◌, ap, subst, arith}
-use Rattle.std.specs.Ordering.{nat_cmp}
-use Rattle.std.specs.BTreeSet.{insert_key}
+use Rattle.std.specs.Prelude.{◌≡◌, ℕ, ◌<◌, ◌≤◌, Bool, true, false, ◌||◌, ◌==◌, if◌then◌else◌, List, [], ◌∷◌, ◌++◌, refl}
+use Rattle.std.proofs.Common.{sym, ◌∙◌, ap, arith}
 use Rattle.gx_base.specs.declared.acts.Step.{Step}
 use Rattle.gx_base.specs.declared.calls.Made.{Made}
 use Rattle.gx_base.specs.Replays.{part, made_by}
 use Rattle.speculation.proofs.Putting.{no_bool, numbers_equal, same_number}
 use Rattle.iterate.specs.Places.{AreWithin}
-use Rattle.iterate.specs.RoomLists.{is_among, rooms_of, steps_in, before, on_from, AreAbove, AreRising, AreBelow}
+use Rattle.iterate.specs.RoomLists.{is_among, steps_in, before, on_from, AreAbove, AreRising, AreBelow}
 
 pub both_false : (p q : Bool) → (p || q) ≡ false → (p ≡ false) × (q ≡ false)
 both_false true q e = absurd (cc)
@@ -125,8 +123,3 @@ within_by n x ys false l h = h
 pub steps_within : (n : ℕ) (rooms : List ℕ) (steps : List Step) → AreWithin n steps → AreWithin n (steps_in rooms steps)
 steps_within n rooms [] h = tt
 steps_within n rooms (x ∷ xs) h = within_by n x (steps_in rooms xs) (is_among rooms x.room) h.0 (steps_within n rooms xs h.1)
-
-pub none_in : (steps : List Step) → steps_in [] steps ≡ []
-none_in [] = refl
-none_in (x ∷ xs) = none_in xs
-

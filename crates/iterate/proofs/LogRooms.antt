@@ -1,6 +1,6 @@
 -- The rooms of a log, and a release where there is nothing to release.
-use Rattle.std.specs.Prelude.{◌≡◌, ℕ, ◌+◌, ◌<◌, Bool, true, false, not, ◌&&◌, ◌||◌, ◌==◌, if◌then◌else◌, Option, Some, List, [], ◌∷◌, ◌++◌, refl, ⊤}
-use Rattle.std.proofs.Common.{sym, ◌∙◌, ap, subst, arith}
+use Rattle.std.specs.Prelude.{◌≡◌, ℕ, ◌+◌, ◌<◌, Bool, true, false, not, ◌||◌, ◌==◌, if◌then◌else◌, List, [], ◌∷◌, ◌++◌, refl, ⊤}
+use Rattle.std.proofs.Common.{sym, ◌∙◌, ap, arith}
 use Rattle.std.proofs.lemmas.List.{append-nil}
 use Rattle.std.proofs.lemmas.Cmp.{ranked}
 use Rattle.std.specs.declared.cmp.Ordering.{Ordering}
@@ -11,7 +11,7 @@ use Rattle.gx_base.specs.declared.acts.Entry.{Entry}
 use Rattle.gx_base.specs.declared.acts.Step.{Step}
 use Rattle.gate_core.specs.Entries.{is_of, entries_of, others_than, has_entry, done_under}
 use Rattle.gate_core.specs.Views.{GateView, release}
-use Rattle.speculation.proofs.Putting.{no_bool, numbers_equal, same_number}
+use Rattle.speculation.proofs.Putting.{same_number}
 use Rattle.iterate.specs.Places.{AreWithin}
 use Rattle.iterate.specs.RoomLists.{is_among, rooms_of, steps_in, AreAbove, AreRising, AreBelow}
 

@@ -1,24 +1,23 @@
 -- Releases in one room after another.
-use Rattle.std.specs.Prelude.{◌≡◌, ◌⊎◌, ℕ, ◌+◌, ◌-◌, ◌^◌, ◌<◌, ◌≤◌, Bool, true, false, ◌&&◌, ◌||◌, ◌==◌, if◌then◌else◌, Option, Some, None, List, [], ◌∷◌, ◌++◌, is_some, refl, ⊤}
+use Rattle.std.specs.Prelude.{◌≡◌, ℕ, ◌+◌, ◌<◌, ◌≤◌, Bool, true, false, ◌&&◌, ◌||◌, ◌==◌, if◌then◌else◌, Option, Some, None, List, [], ◌∷◌, ◌++◌, is_some, refl}
 use Rattle.std.proofs.Common.{sym, ◌∙◌, ap, subst, inl, inr, append_assoc, arith}
 use Rattle.std.proofs.lemmas.List.{append-nil}
-use Rattle.gx_base.specs.declared.acts.Entry.{Entry}
 use Rattle.gx_base.specs.Replays.{put}
 use Rattle.gx_base.specs.RoomViews.{RoomView}
 use Rattle.gate_core.specs.Entries.{has_entry}
 use Rattle.gate_core.specs.Views.{GateView, release}
-use Rattle.speculation.proofs.Putting.{no_bool, numbers_equal, same_number}
-use Rattle.rooms.specs.RoomsViews.{RoomsView, nowhere, is_held, holds_book, mark_entered, commits_in, commits_entered, entries_for, is_release, released_with, told_with, entered, left}
-use Rattle.rooms.specs.HandedOut.{IsHandedOut, IsTold, IsLost, MayHaveMark}
+use Rattle.speculation.proofs.Putting.{numbers_equal, same_number}
+use Rattle.rooms.specs.RoomsViews.{RoomsView, nowhere, is_held, holds_book, commits_in, commits_entered, entries_for, is_release, told_with, entered, left}
+use Rattle.rooms.specs.HandedOut.{IsHandedOut, MayHaveMark}
 use Rattle.rooms.specs.Values.{tells}
 use Rattle.rooms.specs.declared.values.Value.{Value}
 use Rattle.rooms.specs.declared.values.Value.TheVariants.{Object}
 use Rattle.rooms.proofs.CallerLemmas.{put_same, put_other, put_back_again, held_entered, held_elsewhere, mark_entered_here, commits_entered_elsewhere}
 use Rattle.iterate.specs.Places.{no_gate, gate_of, IfTold}
 use Rattle.iterate.specs.RoomLists.{is_among, rest_of, AreAbove, AreRising, AreBelow}
-use Rattle.iterate.specs.Visits.{MayLeaveGate, WasVisited, AreReleased, MayRelease, IsCutShort}
+use Rattle.iterate.specs.Visits.{MayLeaveGate, WasVisited, AreReleased, MayRelease}
 use Rattle.iterate.proofs.Standing.{told_gate}
-use Rattle.iterate.proofs.Visiting.{other_than_book, other_than_room}
+use Rattle.iterate.proofs.Visiting.{other_than_room}
 
 -- ---- lists of rooms
 

@@ -1,5 +1,5 @@
 -- The turns of a session that makes a commit.
-use Rattle.std.specs.Prelude.{◌≡◌, ◌≢◌, ◌⊎◌, ℕ, ◌+◌, ◌<◌, ◌≤◌, Bool, true, false, ◌||◌, ◌==◌, if◌then◌else◌, Option, Some, None, List, [], ◌∷◌, ◌++◌, length, is_some, Result, Ok, Err, refl, ⊤}
+use Rattle.std.specs.Prelude.{◌≡◌, ◌≢◌, ◌⊎◌, ℕ, ◌+◌, ◌<◌, ◌≤◌, Bool, true, false, ◌||◌, ◌==◌, if◌then◌else◌, Option, Some, None, List, [], ◌++◌, length, is_some, Ok, refl}
 use Rattle.std.specs.Cmp.{nat_eq_equiv}
 use Rattle.std.proofs.lemmas.List.{length_push}
 use Rattle.std.proofs.Common.{sym, ◌∙◌, ap, subst, inl, inr, arith}
@@ -9,10 +9,8 @@ use Rattle.gx_base.specs.Outcomes.{WholeCommit}
 use Rattle.gx_base.specs.Plans.{Operator}
 use Rattle.gx_base.specs.Replays.{part, put}
 use Rattle.gx_base.specs.RoomViews.{RoomView}
-use Rattle.gate_core.specs.Entries.{mades_of, entries_of}
 use Rattle.gate_core.specs.Views.{GateView, release}
 use Rattle.commit_book.specs.BookViews.{BookView}
-use Rattle.speculation.specs.Events as event
 use Rattle.speculation.specs.Machines.{Place}
 use Rattle.speculation.proofs.Putting.{no_bool, numbers_equal, same_number}
 use Rattle.speculation.proofs.GateTurns.{log_releases}
@@ -23,25 +21,21 @@ use Rattle.rooms.specs.declared.values.Value.{Value}
 use Rattle.rooms.specs.declared.values.Value.TheVariants.{Object, Book}
 use Rattle.rooms.proofs.CallerLemmas.{put_same, put_other}
 use Rattle.iterate.specs.declared.events.Event.TheVariants as events
-use Rattle.iterate.specs.declared.session.Phase.{Phase as CodePhase}
 use Rattle.iterate.specs.declared.session.Phase.TheVariants as code
 use Rattle.iterate.specs.Needs.{needs}
-use Rattle.iterate.specs.Places.{IsLogIn, IsLogOf, IsFit, IsFitIn, IsCommitOf, AreWithin, IfTold, no_gate, gate_of, book_of, IsBookIn, StandsOn}
+use Rattle.iterate.specs.Places.{IsLogIn, IsLogOf, IsFit, IsFitIn, IsCommitOf, AreWithin, IfTold, gate_of, book_of, IsBookIn, StandsOn}
 use Rattle.iterate.specs.RoomLists.{is_among, steps_in, before, on_from, AreRising, AreBelow}
 use Rattle.iterate.specs.SessionViews.{OpenCommit, Rests, Core, SessionView, view_in}
-use Rattle.iterate.specs.SharedTurns.{Shared, released, cut_commit, rest_of_commit}
-use Rattle.iterate.specs.Turns.{OthersStay, TakesTurn, IsAfter, IsLostIn}
-use Rattle.iterate.specs.Visits.{AreReleased, MayRelease, IsCutShort, MayLeaveBook}
+use Rattle.iterate.specs.SharedTurns.{released}
+use Rattle.iterate.specs.Turns.{OthersStay, TakesTurn}
+use Rattle.iterate.specs.Visits.{AreReleased, IsCutShort, MayLeaveBook}
 use Rattle.iterate.proofs.Logs.{log_sound, sound_log, log_shown, others_release}
 use Rattle.iterate.proofs.Standing.{RoomKept, GateLeft, AreLeft, fits, told_book_itself, base_gates, base_gates_told, base_no_others, base_logs}
-use Rattle.iterate.proofs.Visiting.{SameGates, OrderedTold, carried, lost_gates, book_gates, other_than_room, other_than_book}
+use Rattle.iterate.proofs.Visiting.{SameGates, OrderedTold, carried, lost_gates, book_gates}
 use Rattle.iterate.proofs.Turning.{turned, no_loss, some_number}
 use Rattle.iterate.proofs.LeftRooms.{among_both, below_end, below_front, not_among, rising_end, apart, before_is, on_from_is, part_in, steps_in_twice, steps_within}
 use Rattle.iterate.proofs.ReleaseSteps.{not_in_front, among_at}
-use Rattle.iterate.proofs.UndoTurns.{over, or_left, or_right}
-
-among_front : (x y : Bool) → x ≡ true → (x || y) ≡ true
-among_front x y e = or_left x y e
+use Rattle.iterate.proofs.UndoTurns.{or_left, or_right}
 
 module _ {T S : Type 0} (op : Operator) (a mid b : RoomsView (Value T S)) (s t : SessionView) (front : List ℕ) (iter number : ℕ) (fit : IsFit op a s) (h : AreReleased a mid s.worker iter number front) (after : SameGates mid b)
     (its_iter : iter ≡ s.at.iter) (below : AreBelow a.book front) where
@@ -132,7 +126,7 @@ module _ {T S : Type 0} (op : Operator) (a mid b : RoomsView (Value T S)) (s t :
       was = ap (λ (g : GateView). entries_for a.acts_for g.live) (then_was room e) ∙ h.entries room e;
       log = subst (λ (g : GateView). IsLogOf room t g.live) (sym (q_released room e)) (released_log room l e);
       others = subst (λ (g : GateView). OthersStay s.worker (gates_then room).live g.live) (sym (q_released room e))
-      (subst (λ (g : GateView). OthersStay s.worker g.live (release (h.was room) s.worker iter number).live) (sym (then_was room e)) (others_release s.worker iter number (h.was room)));
+          (subst (λ (g : GateView). OthersStay s.worker g.live (release (h.was room) s.worker iter number).live) (sym (then_was room e)) (others_release s.worker iter number (h.was room)));
     })
     room_by room l false e = inl (record {
       live = b_live room l ∙ h.live room ∙ ap (λ (c : Bool). if c then entries_for a.acts_for (release (h.was room) s.worker iter number).live else a.live room) e;
@@ -151,8 +145,8 @@ module _ {T S : Type 0} (op : Operator) (a mid b : RoomsView (Value T S)) (s t :
       acts_for = after.acts_for ∙ h.acts_for;
       telling = subst (λ n. is_some (b.told n) ≡ is_some (mid.told n)) h.book after.telling ∙ ap (λ (o : Option (Value T S)). is_some o) mid_book_told;
       ordered_told = λ l.
-      let m : OrderedTold a.book a.ordered mid.told = subst (λ (o : Option (Value T S)). IfTold o (λ value. (book_of value).ordered ≡ a.ordered)) (sym mid_book_told) l in
-      carried a.book mid.book a.ordered mid.ordered mid.told b.told h.book h.ordered after.ordered_told m;
+          let m : OrderedTold a.book a.ordered mid.told = subst (λ (o : Option (Value T S)). IfTold o (λ value. (book_of value).ordered ≡ a.ordered)) (sym mid_book_told) l in
+          carried a.book mid.book a.ordered mid.ordered mid.told b.told h.book h.ordered after.ordered_told m;
       rooms = λ room l. room_by room l (is_among front room) refl;
       beyond = λ room l. q_kept room (beyond_front room l);
     }
@@ -255,8 +249,7 @@ module _ {T S St : Type 0} (op : Operator) (a b : RoomsView (Value T S)) (rest :
       → AreReleased a mid c.worker c.iter number front → IsLost mid b room → IsFitIn op b (view_in rest c (code.Committing book number now)) (Some (record { book = book; number = number; left = now }))
   cut_fits now front mid room fit k parts rising fewer h loss =
       let held : b.held ≡ a.held = ap (λ (v : RoomsView (Value T S)). v.held) loss.same ∙ h.held in
-      let book_is : b.book ≡ a.book = ap (λ (v : RoomsView (Value T S)). v.book) loss.same ∙ h.book in
-      (
+      let book_is : b.book ≡ a.book = ap (λ (v : RoomsView (Value T S)). v.book) loss.same ∙ h.book in (
         (λ r. ap (λ (f : ℕ → Option RoomView). is_some (f r)) held ∙ held_of fit r ∙ ap (λ n. r == n) (sym book_is)),
         record {
           earlier = k.earlier;
@@ -309,8 +302,7 @@ module _ {T S St : Type 0} (op : Operator) (a b : RoomsView (Value T S)) (rest :
               risen = λ other e. subst (λ r. HasRisen (a.lost r) (b.lost r)) (some_number e) (subst (λ f. HasRisen (f h.room) (b.lost h.room)) h.front_released.lost h.loss.risen);
               others = λ other m. cut_others h.mid h.room other h.loss h.front_released.lost m (h.room == other) refl;
             })
-            (Ok events.Busy)
-            (
+            (Ok events.Busy) (
               record {
                 event_is = refl;
                 place_is = λ i. record { gates = released gates (front_is i) c.worker c.iter number; book = book; session = record t.at { outcome = record { steps = log_is i; pushes = c.pushes; withdrawn = [] } } };
@@ -321,6 +313,6 @@ module _ {T S St : Type 0} (op : Operator) (a b : RoomsView (Value T S)) (rest :
               tt,
             );
         is_fit = fits a b s t p q l fit.acts refl op fit
-        (subst (AreWithin op.rooms) (steps_in_twice now left fewer c.log) (steps_within op.rooms now steps fit.within))
-        (cut_fits now h.front h.mid h.room fit k parts rising fewer h.front_released h.loss);
+            (subst (AreWithin op.rooms) (steps_in_twice now left fewer c.log) (steps_within op.rooms now steps fit.within))
+            (cut_fits now h.front h.mid h.room fit k parts rising fewer h.front_released h.loss);
       }

@@ -1,26 +1,21 @@
 -- What a session stands on after its turn, from what became of each room.
-use Rattle.std.specs.Prelude.{◌≡◌, ◌⊎◌, ℕ, ◌<◌, ◌≤◌, nat_lt, Bool, true, false, ◌==◌, if◌then◌else◌, Option, Some, None, List, [], ◌∷◌, is_some, refl, ⊤}
+use Rattle.std.specs.Prelude.{◌≡◌, ◌⊎◌, ℕ, ◌<◌, ◌≤◌, nat_lt, Bool, true, false, if◌then◌else◌, Option, Some, None, List, [], is_some, refl}
 use Rattle.std.proofs.Common.{sym, ◌∙◌, ap, subst, inl, inr, arith}
 use Rattle.std.proofs.lemmas.Bool.Decides.{nat_tests}
 use Rattle.gx_base.specs.declared.acts.Entry.{Entry}
 use Rattle.gx_base.specs.Plans.{Operator}
-use Rattle.gx_base.specs.Replays.{put}
-use Rattle.gx_base.specs.RoomViews.{RoomView}
-use Rattle.gate_core.specs.Entries.{Each, mades_of, entries_of, entries_by}
+use Rattle.gate_core.specs.Entries.{entries_by}
 use Rattle.gate_core.specs.Views.{GateView}
 use Rattle.commit_book.specs.BookViews.{BookView, new_book}
 use Rattle.speculation.specs.Machines.{Place}
-use Rattle.speculation.proofs.Putting.{no_bool}
-use Rattle.rooms.specs.RoomsViews.{RoomsView, entries_for, told_with, entered, left}
-use Rattle.rooms.specs.HandedOut.{IsHandedOut, IsTold}
-use Rattle.rooms.specs.Values.{tells}
+use Rattle.rooms.specs.RoomsViews.{RoomsView, entries_for, told_with}
+use Rattle.rooms.specs.HandedOut.{IsTold}
 use Rattle.rooms.specs.declared.values.Value.{Value}
 use Rattle.rooms.specs.declared.values.Value.TheVariants.{Object, Book}
-use Rattle.rooms.proofs.CallerLemmas.{put_same, put_other}
-use Rattle.iterate.specs.Places.{IsLogIn, IsLogOf, IsFit, IsFitIn, AreWithin, no_gate, gate_of, book_of, IfTold, IsBookIn, StandsOn}
+use Rattle.iterate.specs.Places.{IsLogOf, IsFit, IsFitIn, AreWithin, no_gate, gate_of, book_of, IfTold, IsBookIn, StandsOn}
 use Rattle.iterate.specs.SessionViews.{OpenCommit, SessionView}
 use Rattle.iterate.specs.Turns.{OthersStay, AreSameRooms}
-use Rattle.iterate.proofs.Logs.{log_shown, log_hidden, others_hidden}
+use Rattle.iterate.proofs.Logs.{log_hidden, others_hidden}
 
 module _ {T S : Type 0} where
   -- ---- what is told

@@ -1,17 +1,17 @@
 -- The turns of an idle session.
-use Rattle.std.specs.Prelude.{◌≡◌, ◌≢◌, ℕ, Bool, true, false, ◌==◌, if◌then◌else◌, Option, Some, None, List, [], ◌∷◌, ◌++◌, length, Result, Ok, Err, refl, ⊤}
+use Rattle.std.specs.Prelude.{◌≡◌, ℕ, Option, Some, None, List, [], Ok, Err, refl}
 use Rattle.std.proofs.Common.{sym, ◌∙◌, ap, subst}
 use Rattle.gx_base.specs.declared.acts.Entry.{Entry}
 use Rattle.gx_base.specs.declared.items.Item.{Item}
 use Rattle.gx_base.specs.BodyRuns.{RunsTo, begun}
-use Rattle.gx_base.specs.Plans.{Plan, Operator}
+use Rattle.gx_base.specs.Plans.{Operator}
 use Rattle.gx_base.specs.Replays.{part}
 use Rattle.gate_core.specs.Entries.{mades_of, entries_of}
 use Rattle.gate_core.specs.Views.{GateView}
 use Rattle.commit_book.specs.BookViews.{BookView, free_item, next_free, give_found}
 use Rattle.speculation.specs.Events as event
 use Rattle.speculation.specs.Machines.{Place, Turned, take, turn_at}
-use Rattle.speculation.specs.Sessions.{Session, Running}
+use Rattle.speculation.specs.Sessions.{Running}
 use Rattle.speculation.proofs.Putting.{same_number}
 use Rattle.speculation.proofs.IterationEntries.{Fresh, fresh, no_mades}
 use Rattle.rooms.specs.RoomsViews.{RoomsView}
@@ -21,11 +21,10 @@ use Rattle.iterate.specs.declared.events.Event.TheVariants as events
 use Rattle.iterate.specs.declared.events.Stop.TheVariants as stops
 use Rattle.iterate.specs.declared.session.Phase.{Phase as CodePhase}
 use Rattle.iterate.specs.declared.session.Phase.TheVariants as code
-use Rattle.iterate.specs.Places.{IsLogIn, IsLogOf, IsFit, IsBody}
+use Rattle.iterate.specs.Places.{IsLogOf, IsFit}
 use Rattle.iterate.specs.SessionViews.{Rests, Core, SessionView, view_in, log_of, begins, IsBegun}
 use Rattle.iterate.specs.Turns.{TakesTurn}
 use Rattle.iterate.specs.Visits.{BookWasVisited}
-use Rattle.iterate.proofs.Standing.{base_place}
 use Rattle.iterate.proofs.Turning.{whole}
 use Rattle.iterate.proofs.BookTurns.{body_of, book_place, book_turn, lost_turn}
 

@@ -1,44 +1,29 @@
 -- Turns of sessions, put together from what became of the rooms and from what the machine does.
-use Rattle.std.specs.Prelude.{◌≡◌, ◌≢◌, ◌⊎◌, ℕ, ◌<◌, ◌≤◌, Bool, true, false, ◌==◌, if◌then◌else◌, Option, Some, None, List, [], ◌∷◌, length, is_some, Result, Ok, Err, refl, ⊤}
-use Rattle.std.proofs.Common.{sym, ◌∙◌, ap, subst, inl, inr, arith}
-use Rattle.gx_base.specs.declared.acts.Entry.{Entry}
-use Rattle.gx_base.specs.declared.items.Item.{Item}
+use Rattle.std.specs.Prelude.{◌≡◌, ◌≢◌, ℕ, Bool, true, false, ◌==◌, Option, Some, None, length, is_some, Result, Ok, refl}
+use Rattle.std.proofs.Common.{sym, ◌∙◌, ap, subst}
 use Rattle.gx_base.specs.Plans.{Operator}
 use Rattle.gx_base.specs.Replays.{put}
 use Rattle.gx_base.specs.RoomViews.{RoomView}
-use Rattle.gate_core.specs.Views.{GateView}
-use Rattle.commit_book.specs.BookViews.{BookView}
-use Rattle.speculation.specs.Events as event
 use Rattle.speculation.specs.Limits.{limit_at}
 use Rattle.speculation.specs.Machines.{Place, Turned, turn_at}
-use Rattle.speculation.specs.Sessions.{Session, Phase}
-use Rattle.speculation.proofs.Putting.{no_bool, numbers_equal}
-use Rattle.rooms.specs.RoomsViews.{RoomsView, entered, left, is_held}
-use Rattle.rooms.specs.HandedOut.{IsHandedOut, IsLost, HasRisen}
-use Rattle.rooms.specs.Values.{tells}
+use Rattle.speculation.proofs.Putting.{numbers_equal}
+use Rattle.rooms.specs.RoomsViews.{RoomsView}
+use Rattle.rooms.specs.HandedOut.{IsLost, HasRisen}
 use Rattle.rooms.specs.declared.values.Value.{Value}
-use Rattle.rooms.specs.declared.values.Value.TheVariants.{Object, Book}
 use Rattle.rooms.proofs.CallerLemmas.{put_same, put_other}
 use Rattle.iterate.specs.declared.events.Event.{Event as CodeEvent}
-use Rattle.iterate.specs.declared.events.Event.TheVariants as code
 use Rattle.iterate.specs.declared.events.Stop.{Stop}
 use Rattle.iterate.specs.Needs.{gone_on, needs}
-use Rattle.iterate.specs.Places.{IsLogOf, IsFit, AreWithin, IsFitIn, IsBody, IfTold, book_of, IsBookIn, StandsOn}
+use Rattle.iterate.specs.Places.{IsFit, IsBookIn, StandsOn}
 use Rattle.iterate.specs.SessionViews.{OpenCommit, SessionView}
-use Rattle.iterate.specs.SharedTurns.{Shared, whole_turn, shared_in, shared_turn, pushes_by}
-use Rattle.iterate.specs.Turns.{event_of, TellsRight, IsLostIn, limit_on, GoesWell, IsAfter, Answers, AreSameRooms, HasTurned}
-use Rattle.iterate.specs.Visits.{WasVisited, BookWasVisited}
-use Rattle.iterate.proofs.Standing.{RoomKept, GateLeft, AreLeft, stands, fits, same_rooms, told_book, base_place, base_gates, base_stands}
-use Rattle.iterate.proofs.Visiting.{SameGates, same_gates, entered_gates, lost_gates, book_gates, then_same, none_left, one_left}
+use Rattle.iterate.specs.SharedTurns.{shared_in, pushes_by}
+use Rattle.iterate.specs.Turns.{event_of, TellsRight, IsLostIn, GoesWell, IsAfter, Answers, HasTurned}
+use Rattle.iterate.proofs.Standing.{AreLeft, stands, same_rooms}
 
 pub some_number : {x y : ℕ} → Some x ≡ Some y → x ≡ y
 some_number e = cc
 
 -- ---- held rooms
-
-none_held : (o : Option RoomView) → is_some o ≡ false → o ≡ None
-none_held None e = refl
-none_held (Some x) e = absurd (cc)
 
 module _ (held : ℕ → Option RoomView) (room : ℕ) (seen : RoomView) (free : (other : ℕ) → is_some (held other) ≡ false) where
   again_by : (other : ℕ) (c : Bool) → (room == other) ≡ c → is_some (put (put held room (Some seen)) room None other) ≡ false

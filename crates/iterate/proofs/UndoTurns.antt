@@ -1,24 +1,24 @@
 -- The turns of a session that undoes.
-use Rattle.std.specs.Prelude.{◌≡◌, ◌≢◌, ◌⊎◌, ℕ, ◌<◌, ◌≤◌, Bool, true, false, ◌||◌, ◌==◌, if◌then◌else◌, Option, Some, None, List, [], ◌∷◌, ◌++◌, length, IsSome, Result, Ok, Err, refl, ⊤}
-use Rattle.std.proofs.Common.{sym, ◌∙◌, ap, subst, inl, inr, arith}
+use Rattle.std.specs.Prelude.{◌≡◌, ◌≢◌, ℕ, ◌<◌, Bool, true, false, ◌||◌, ◌==◌, if◌then◌else◌, Option, Some, None, List, [], ◌∷◌, ◌++◌, length, IsSome, Ok, refl}
+use Rattle.std.proofs.Common.{sym, ◌∙◌, ap, subst, arith}
 use Rattle.std.proofs.lemmas.List.{append-nil}
 use Rattle.std.specs.Option.{option_to_list}
 use Rattle.gx_base.specs.declared.acts.Entry.{Entry}
 use Rattle.gx_base.specs.declared.acts.Step.{Step}
 use Rattle.gx_base.specs.Plans.{Operator}
-use Rattle.gx_base.specs.Replays.{part, put}
+use Rattle.gx_base.specs.Replays.{put}
 use Rattle.gate_core.specs.Views.{GateView, undo_last}
 use Rattle.commit_book.specs.BookViews.{BookView, put_back}
 use Rattle.speculation.specs.Events as event
-use Rattle.speculation.specs.Machines.{Place, Turned, let_go, undone, undo_step, turn_at}
-use Rattle.speculation.specs.Sessions.{Session, Undoing, ended, undone_to, last_step, steps_before, has_no_step}
-use Rattle.speculation.proofs.Putting.{no_bool, both_are, same_number}
+use Rattle.speculation.specs.Machines.{Place, Turned, let_go, undo_step, turn_at}
+use Rattle.speculation.specs.Sessions.{ended, undone_to, last_step, steps_before, has_no_step}
+use Rattle.speculation.proofs.Putting.{both_are, same_number}
 use Rattle.speculation.proofs.Steps.{last_is_none, last_is_last, is_none}
 use Rattle.speculation.proofs.GateTurns.{log_undoes, log_back_elsewhere}
 use Rattle.rooms.specs.RoomsViews.{RoomsView, entered, left, is_held}
 use Rattle.rooms.specs.HandedOut.{IsHandedOut, IsLost}
 use Rattle.rooms.specs.declared.values.Value.{Value}
-use Rattle.rooms.specs.declared.values.Value.TheVariants.{Object, Book}
+use Rattle.rooms.specs.declared.values.Value.TheVariants.{Book}
 use Rattle.rooms.specs.Values.{tells}
 use Rattle.iterate.specs.declared.events.Event.TheVariants as events
 use Rattle.iterate.specs.declared.session.Phase.{Phase as CodePhase}
@@ -30,7 +30,7 @@ use Rattle.iterate.specs.Turns.{TakesTurn}
 use Rattle.iterate.specs.Visits.{BookWasVisited, WasVisited}
 use Rattle.iterate.proofs.Logs.{log_sound, sound_log, others_undo}
 use Rattle.iterate.proofs.Standing.{AreLeft, fits, told_book, base_place, base_gates, base_book_in, base_stands}
-use Rattle.iterate.proofs.Visiting.{SameGates, none_left, same_gates, entered_gates, book_gates, then_same}
+use Rattle.iterate.proofs.Visiting.{SameGates, none_left, same_gates}
 use Rattle.iterate.proofs.Turning.{whole, no_loss, turned}
 use Rattle.iterate.proofs.GateVisits.{gate_place, gate_turn, gate_log, gate_visit_free, gate_visit_lost, gate_visit_book}
 use Rattle.rooms.proofs.CallerLemmas.{put_same}

@@ -1,26 +1,24 @@
 -- What becomes of rooms in a turn that leaves one gate, or none.
-use Rattle.std.specs.Prelude.{◌≡◌, ◌⊎◌, ℕ, ◌<◌, ◌≤◌, nat_lt, Bool, true, false, ◌==◌, if◌then◌else◌, Option, Some, None, List, [], ◌∷◌, is_some, refl, ⊤}
+use Rattle.std.specs.Prelude.{◌≡◌, ◌⊎◌, ℕ, ◌<◌, Bool, true, false, ◌==◌, Option, Some, None, List, is_some, refl}
 use Rattle.std.proofs.Common.{sym, ◌∙◌, ap, subst, inl, inr, arith}
 use Rattle.gx_base.specs.declared.acts.Entry.{Entry}
-use Rattle.gx_base.specs.Plans.{Operator}
 use Rattle.gx_base.specs.Replays.{put}
 use Rattle.gx_base.specs.RoomViews.{RoomView}
 use Rattle.gx_base.specs.Entries.{entries_by}
 use Rattle.gate_core.specs.Views.{GateView}
 use Rattle.commit_book.specs.BookViews.{BookView}
 use Rattle.speculation.specs.Machines.{Place}
-use Rattle.speculation.proofs.Putting.{no_bool, numbers_equal, same_number}
-use Rattle.rooms.specs.RoomsViews.{RoomsView, entries_for, told_with, entered, left, is_held}
-use Rattle.rooms.specs.HandedOut.{IsHandedOut, IsTold, IsLost}
+use Rattle.speculation.proofs.Putting.{numbers_equal}
+use Rattle.rooms.specs.RoomsViews.{RoomsView, entries_for, told_with, entered, left}
+use Rattle.rooms.specs.HandedOut.{IsHandedOut, IsLost}
 use Rattle.rooms.specs.Values.{tells}
 use Rattle.rooms.specs.declared.values.Value.{Value}
 use Rattle.rooms.specs.declared.values.Value.TheVariants.{Object, Book}
 use Rattle.rooms.proofs.CallerLemmas.{put_same, put_other}
-use Rattle.iterate.specs.Places.{IsLogIn, IsLogOf, IsFit, no_gate, gate_of, book_of, IfTold, IsBookIn, StandsOn}
-use Rattle.iterate.specs.SessionViews.{OpenCommit, SessionView}
+use Rattle.iterate.specs.Places.{IsLogOf, book_of, IfTold}
+use Rattle.iterate.specs.SessionViews.{SessionView}
 use Rattle.iterate.specs.Turns.{OthersStay}
-use Rattle.iterate.proofs.Logs.{log_shown}
-use Rattle.iterate.proofs.Standing.{RoomKept, GateLeft, AreLeft, told_gate, told_book, told_book_itself}
+use Rattle.iterate.proofs.Standing.{RoomKept, GateLeft, AreLeft, told_book_itself}
 
 pub other_than_room : (room other : ℕ) → room < other → (room == other) ≡ false
 other_than_room room other l = by_test (room == other) refl where
@@ -119,7 +117,6 @@ module _ {T S : Type 0} where
     module _ (x y : RoomsView (Value T S)) (room : ℕ) (seen : RoomView) (was now : GateView) (before : SameGates a x) (visit : y ≡ left tells (entered x room seen) room (Object now)) (after : SameGates y b)
         (below : room < a.book) (handed : IsHandedOut tells x room (Object was)) (p_has : p.gates room ≡ was) (q_has : q.gates ≡ put p.gates room now)
         (log : IsLogOf room t now.live) (others : OthersStay s.worker was.live now.live) (elsewhere : (other : ℕ) → (room == other) ≡ false → (es : List Entry) → IsLogOf other s es → IsLogOf other t es) where
-
       field_of : {A : Type 0} → (f : RoomsView (Value T S) → A) → f y ≡ f (left tells (entered x room seen) room (Object now))
       field_of f = ap f visit
 

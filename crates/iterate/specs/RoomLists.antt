@@ -1,5 +1,5 @@
 -- Lists of rooms, and the steps that are in them.
-use Rattle.std.specs.Prelude.{ℕ, ◌<◌, ⊤, Bool, true, false, ◌||◌, ◌==◌, if◌then◌else◌, List, [], ◌∷◌, filter}
+use Rattle.std.specs.Prelude.{ℕ, ◌<◌, ⊤, Bool, false, ◌||◌, ◌==◌, if◌then◌else◌, List, [], ◌∷◌, filter}
 use Rattle.std.specs.Ordering.{nat_cmp}
 use Rattle.std.specs.BTreeSet.{insert_key}
 use Rattle.gx_base.specs.declared.acts.Step.{Step}

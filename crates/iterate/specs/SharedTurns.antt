@@ -7,7 +7,7 @@ use Rattle.commit_book.specs.BookViews.{commit, is_named}
 use Rattle.speculation.specs.Events.{Event}
 use Rattle.speculation.specs.Events as event
 use Rattle.speculation.specs.Sessions.{Session, Phase, Idle, Running, Finished, Undoing, ended, undoing, undone_to, has_no_step}
-use Rattle.speculation.specs.Machines.{Place, Turned, let_go, turn_at}
+use Rattle.speculation.specs.Machines.{Place, let_go, turn_at}
 use Rattle.iterate.specs.RoomLists.{is_among, rooms_of, steps_in, before, on_from}
 use Rattle.iterate.specs.SessionViews.{OpenCommit, SessionView}
 use Rattle.iterate.specs.Needs.{gone_on}

@@ -1,12 +1,10 @@
 -- What a turn of a session did and answered.
 use Rattle.std.specs.Prelude.{◌≡◌, ◌≢◌, ℕ, ◌<◌, ◌≤◌, Bool, true, false, ◌==◌, Option, Some, None, List, length, is_some, Result, Ok, Err, ⊤}
-use Rattle.gx_base.specs.declared.calls.Call.{Call as CallOf}
 use Rattle.gx_base.specs.declared.acts.Entry.{Entry}
 use Rattle.gx_base.specs.Entries.{entries_by}
 use Rattle.gx_base.specs.Plans.{Operator}
-use Rattle.gate_core.specs.declared.refusals.Told.{Told}
 use Rattle.gate_core.specs.CallAnswers.{Tells}
-use Rattle.gate_core.specs.Views.{GateView, rows_of, live_start}
+use Rattle.gate_core.specs.Views.{rows_of, live_start}
 use Rattle.commit_book.specs.BookViews.{is_named}
 use Rattle.speculation.specs.Events.{Event}
 use Rattle.speculation.specs.Events as event

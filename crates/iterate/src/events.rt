@@ -5,18 +5,28 @@ use gx_base::{Call, Item, Reply, Room};
 #[derive(Clone, Copy, Debug, PartialEq, Eq, Drop)]
 pub enum Event {
     /// A new iteration runs on an item.
-    Take { item: Item },
+    Take {
+        item: Item,
+    },
     Call {
         room: Room,
         call: Call,
         reply: Reply,
     },
     /// A call was not done: an uncommitted entry of another iteration is in its way.
-    Conflict { room: Room, told: Told },
+    Conflict {
+        room: Room,
+        told: Told,
+    },
     /// The iteration's last call was taken back.
-    Undo { room: Room, call: Call },
+    Undo {
+        room: Room,
+        call: Call,
+    },
     /// The iteration has committed, after so many others.
-    Commit { number: u64 },
+    Commit {
+        number: u64,
+    },
     /// A smaller item is ready, in a loop whose items commit in their order.
     Wait,
     /// The iteration's item isn't ready any more.

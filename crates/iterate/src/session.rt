@@ -19,9 +19,16 @@ use std::alloc::Global;
 pub enum Phase<St: Drop> {
     Idle,
     /// The body goes on, given the reply to its last call.
-    Running { st: St, last: Option<Reply> },
+    Running {
+        st: St,
+        last: Option<Reply>,
+    },
     /// The body has asked a call that isn't done yet.
-    Asking { st: St, room: Room, call: Call },
+    Asking {
+        st: St,
+        room: Room,
+        call: Call,
+    },
     /// The body is at its end.
     Finished,
     /// The book, which the session holds, has the commit, after so many others. In these rooms its calls are still to

@@ -1,7 +1,6 @@
-use Rattle.std.proofs.Common.{◌≡◌, ℕ, List, [], ◌∷◌, ◌++◌, sym, ◌∙◌, refl, ap, subst}
-use Rattle.rooms.specs.HandedOut.{IsLost}
+use Rattle.std.proofs.Common.{ℕ, List, [], ◌∷◌, ◌++◌, ◌∙◌, refl, ap, subst}
 use Rattle.iterate.specs.RoomLists.{rest_of}
-use Rattle.iterate.specs.Visits.{AreReleased, IsCutShort}
+use Rattle.iterate.specs.Visits.{AreReleased}
 use Rattle.iterate.proofs.GateVisits.{gate_visited}
 use Rattle.iterate.proofs.ReleaseSteps.{none_released, may_at, room_in_range, room_free, mark_may_rise, may_leave, then_released, split_on, split_end}
 use Rattle.iterate.proofs.committing.release_all.Goals as goal
@@ -41,7 +40,7 @@ passing-preserved g c = (
   c.passing.invariant.0 ++ c.in-Some.room ∷ [],
   split_on c.args.left.now c.passing.invariant.0 c.passing.left c.in-Some.room c.pass.new.self c.passing.invariant.1 c.in-Some.ensures.some c.pass.ensures,
   then_released c.args.worker c.args.iter c.args.number (g.R.Rooms.view c.args.rooms.now) (g.R.Rooms.view c.passing.rooms) c.passing.invariant.0 c.in-Some.room (rest_of c.passing.left) c.passing.invariant.2 (may_at (g.R.Rooms.view c.args.rooms.now) c.args.number c.args.left.now c.passing.invariant.0 c.passing.left c.in-Some.room c.passing.invariant.1 c.in-Some.ensures.some c.requires) (g.R.Rooms.view c.leave_gate.new.rooms) c.in-Some-enter_gate.gate
-  (gate_visited (g.R.Rooms.view c.passing.rooms) (g.R.Rooms.view c.enter_gate.new.rooms) (g.R.Rooms.view c.leave_gate.new.rooms) c.in-Some.room c.in-Some-enter_gate.gate c.release.new.self _ c.in-Some-enter_gate.ensures.gate c.in-Some-enter_gate.ensures.some c.leave_gate.ensures.view c.release.ensures),
+      (gate_visited (g.R.Rooms.view c.passing.rooms) (g.R.Rooms.view c.enter_gate.new.rooms) (g.R.Rooms.view c.leave_gate.new.rooms) c.in-Some.room c.in-Some-enter_gate.gate c.release.new.self _ c.in-Some-enter_gate.ensures.gate c.in-Some-enter_gate.ensures.some c.leave_gate.ensures.view c.release.ensures),
   c.leave_gate.ensures.loan ∙ c.in-Some-enter_gate.ensures.loan ∙ c.passing.invariant.3,
 )
 

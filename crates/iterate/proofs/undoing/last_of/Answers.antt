@@ -1,4 +1,4 @@
-use Rattle.std.proofs.Common.{◌≡◌, ℕ, ◌+◌, ◌-◌, ◌<◌, suc, List, [], ◌∷◌, length, Some, get_or, refl, ap, ◌∙◌, sym, arith}
+use Rattle.std.proofs.Common.{◌≡◌, ℕ, ◌-◌, suc, List, [], ◌∷◌, length, Some, get_or, ap, ◌∙◌, arith}
 use Rattle.gx_base.specs.declared.acts.Step.{Step}
 use Rattle.speculation.specs.Sessions.{last_step}
 use Rattle.iterate.proofs.undoing.last_of.Goals as goal

@@ -1,10 +1,9 @@
-use Rattle.std.proofs.Common.{◌≡◌, List, [], ◌∷◌, ◌++◌, Some, sym, ◌∙◌, refl, ap, subst, Ok, Err}
+use Rattle.std.proofs.Common.{List, [], ◌∷◌, ◌++◌, Some, sym, ◌∙◌, refl, subst, Ok, Err}
 use Rattle.gx_base.specs.declared.acts.Step.{Step}
 use Rattle.gate_core.specs.CallAnswers.{RefusalFits}
 use Rattle.gate_core.specs.declared.refusals.GateRefuse.{GateRefuse}
-use Rattle.gate_core.specs.declared.refusals.GateRefuse.TheVariants.{Conflict, NoMemory}
 use Rattle.commit_book.specs.SerialRuns.{operator_of}
-use Rattle.iterate.specs.SessionViews.{Core, core_of, view_of}
+use Rattle.iterate.specs.SessionViews.{core_of, view_of}
 use Rattle.iterate.specs.Turns.{TakesTurn}
 use Rattle.iterate.specs.Visits.{GaveUp}
 use Rattle.iterate.specs.declared.events.Event.TheVariants as events

@@ -1,11 +1,10 @@
-use Rattle.std.proofs.Common.{◌≡◌, List, [], length, true, false, refl, ap, sym, ◌∙◌, subst, Ok, Err}
+use Rattle.std.proofs.Common.{[], length, true, false, refl, ap, sym, ◌∙◌, subst, Ok, Err}
 use Rattle.gx_base.specs.Worklists.{has_item}
 use Rattle.commit_book.specs.declared.refusals.CommitRefuse.{CommitRefuse}
-use Rattle.commit_book.specs.BookViews.{BookView, commit, put_back, is_spent, is_past_journal}
+use Rattle.commit_book.specs.BookViews.{put_back, is_spent, is_past_journal}
 use Rattle.commit_book.specs.SerialRuns.{operator_of}
 use Rattle.iterate.specs.Places.{IsFit}
-use Rattle.iterate.specs.RoomLists.{rooms_of}
-use Rattle.iterate.specs.SessionViews.{Core, core_of, view_in, view_of}
+use Rattle.iterate.specs.SessionViews.{core_of, view_in, view_of}
 use Rattle.iterate.specs.Turns.{TakesTurn}
 use Rattle.iterate.specs.declared.session.Phase.{Phase as CodePhase}
 use Rattle.iterate.specs.declared.events.Event.TheVariants as events
@@ -19,7 +18,7 @@ use Rattle.iterate.proofs.session.Session.finish.Goals as goal
 pub release-requires : goal.release-requires
 release-requires g c = record {
   fit = subst (λ (f : CodePhase g.row.O-St.Denot). IsFit (operator_of g.O.Operator c.args.op.now) (g.R.Rooms.view c.enter_book.new.rooms) (view_in (g.O.Operator.rest c.args.op.now) (core_of c.args.self.now) f)) (sym (λ i. code.Committing (c.in-Ok.ensures.ok i) (c.in-Ok.ensures.number i) (c.in-Ok.ensures.left i)))
-  (commit_fits (operator_of g.O.Operator c.args.op.now) (g.R.Rooms.view c.args.rooms.now) (g.R.Rooms.view c.args.rooms.now) (g.O.Operator.rest c.args.op.now) (core_of c.args.self.now) c.in-Some.book (fit_in_phase (operator_of g.O.Operator c.args.op.now) (g.R.Rooms.view c.args.rooms.now) (g.O.Operator.rest c.args.op.now) (core_of c.args.self.now) c.args.self.now.phase code.Finished c.requires.phase c.requires.fit) c.in-Some.ensures.book (g.R.Rooms.view c.enter_book.new.rooms) c.in-Some.ensures.some);
+      (commit_fits (operator_of g.O.Operator c.args.op.now) (g.R.Rooms.view c.args.rooms.now) (g.R.Rooms.view c.args.rooms.now) (g.O.Operator.rest c.args.op.now) (core_of c.args.self.now) c.in-Some.book (fit_in_phase (operator_of g.O.Operator c.args.op.now) (g.R.Rooms.view c.args.rooms.now) (g.O.Operator.rest c.args.op.now) (core_of c.args.self.now) c.args.self.now.phase code.Finished c.requires.phase c.requires.fit) c.in-Some.ensures.book (g.R.Rooms.view c.enter_book.new.rooms) c.in-Some.ensures.some);
 }
 
 pub returns-in-None-clause-turn : goal.returns-in-None-clause-turn
@@ -50,7 +49,7 @@ returns-in-NotLeast-clause-turn g c = absurd (subst (λ (r : CommitRefuse). Beca
 
 pub returns-in-Spent-clause-turn : goal.returns-in-Spent-clause-turn
 returns-in-Spent-clause-turn g c =
-    let why = (subst (λ (r : CommitRefuse). Because r (has_item c.in-Some.book.ready c.args.self.now.item) (is_spent c.in-Some.book) (is_past_journal c.in-Some.book (length c.args.self.now.log.items))) c.in-Spent.is (cause_of c.in-Some.book c.args.self.now.item (length c.args.self.now.log.items) c.in-Err.refuse (c.in-Some.ensures.book.suits.ordered_as refl ∙ c.requires.fit.ordered ∙ c.requires.unordered) c.in-Err.ensures.refused)) in 
+    let why = (subst (λ (r : CommitRefuse). Because r (has_item c.in-Some.book.ready c.args.self.now.item) (is_spent c.in-Some.book) (is_past_journal c.in-Some.book (length c.args.self.now.log.items))) c.in-Spent.is (cause_of c.in-Some.book c.args.self.now.item (length c.args.self.now.log.items) c.in-Err.refuse (c.in-Some.ensures.book.suits.ordered_as refl ∙ c.requires.fit.ordered ∙ c.requires.unordered) c.in-Err.ensures.refused)) in
     shown (operator_of g.O.Operator c.args.op.now) (g.R.Rooms.view c.args.rooms.now) (g.R.Rooms.view c.leave_book-in-Spent.new.rooms) (g.O.Operator.rest c.args.op.now) (core_of c.args.self.now) (core_of c.stop_in.new.self) (core_of c.stop_in.new.self) c.args.self.now.phase code.Finished c.stop_in.new.self.phase c.stop_in.new.self.phase (Err stops.Spent) c.requires.phase refl refl
     (λ fit. stop_turn (operator_of g.O.Operator c.args.op.now) (g.R.Rooms.view c.args.rooms.now) (g.R.Rooms.view c.leave_book-in-Spent.new.rooms) (g.O.Operator.rest c.args.op.now) (core_of c.args.self.now) (g.R.Rooms.view c.enter_book.new.rooms) fit c.in-Some.book c.stop_in.new.book (core_of c.stop_in.new.self) c.stop_in.new.self.phase [] c.in-Some.ensures.book c.in-Some.ensures.some c.leave_book-in-Spent.ensures.view
     (λ e. let h = c.stop_in.ensures.calls e in (h.0 ∙ c.in-Err.ensures.err, h.1, h.2))
@@ -61,7 +60,7 @@ returns-in-Spent-clause-turn g c =
 
 pub returns-in-Kept-clause-turn : goal.returns-in-Kept-clause-turn
 returns-in-Kept-clause-turn g c =
-    let why = (subst (λ (r : CommitRefuse). Because r (has_item c.in-Some.book.ready c.args.self.now.item) (is_spent c.in-Some.book) (is_past_journal c.in-Some.book (length c.args.self.now.log.items))) c.in-Kept.is (cause_of c.in-Some.book c.args.self.now.item (length c.args.self.now.log.items) c.in-Err.refuse (c.in-Some.ensures.book.suits.ordered_as refl ∙ c.requires.fit.ordered ∙ c.requires.unordered) c.in-Err.ensures.refused)) in 
+    let why = (subst (λ (r : CommitRefuse). Because r (has_item c.in-Some.book.ready c.args.self.now.item) (is_spent c.in-Some.book) (is_past_journal c.in-Some.book (length c.args.self.now.log.items))) c.in-Kept.is (cause_of c.in-Some.book c.args.self.now.item (length c.args.self.now.log.items) c.in-Err.refuse (c.in-Some.ensures.book.suits.ordered_as refl ∙ c.requires.fit.ordered ∙ c.requires.unordered) c.in-Err.ensures.refused)) in
     shown (operator_of g.O.Operator c.args.op.now) (g.R.Rooms.view c.args.rooms.now) (g.R.Rooms.view c.leave_book-in-Kept.new.rooms) (g.O.Operator.rest c.args.op.now) (core_of c.args.self.now) (core_of c.stop_in-in-Kept.new.self) (core_of c.stop_in-in-Kept.new.self) c.args.self.now.phase code.Finished c.stop_in-in-Kept.new.self.phase c.stop_in-in-Kept.new.self.phase (Err stops.Kept) c.requires.phase refl refl
     (λ fit. stop_turn (operator_of g.O.Operator c.args.op.now) (g.R.Rooms.view c.args.rooms.now) (g.R.Rooms.view c.leave_book-in-Kept.new.rooms) (g.O.Operator.rest c.args.op.now) (core_of c.args.self.now) (g.R.Rooms.view c.enter_book.new.rooms) fit c.in-Some.book c.stop_in-in-Kept.new.book (core_of c.stop_in-in-Kept.new.self) c.stop_in-in-Kept.new.self.phase [] c.in-Some.ensures.book c.in-Some.ensures.some c.leave_book-in-Kept.ensures.view
     (λ e. let h = c.stop_in-in-Kept.ensures.calls e in (h.0 ∙ c.in-Err.ensures.err, h.1, h.2))
@@ -72,7 +71,6 @@ returns-in-Kept-clause-turn g c =
 
 pub returns-in-NoMemory-clause-turn : goal.returns-in-NoMemory-clause-turn
 returns-in-NoMemory-clause-turn g c =
-    
     shown (operator_of g.O.Operator c.args.op.now) (g.R.Rooms.view c.args.rooms.now) (g.R.Rooms.view c.leave_book-in-NoMemory.new.rooms) (g.O.Operator.rest c.args.op.now) (core_of c.args.self.now) (core_of c.stop_in-in-NoMemory.new.self) (core_of c.stop_in-in-NoMemory.new.self) c.args.self.now.phase code.Finished c.stop_in-in-NoMemory.new.self.phase c.stop_in-in-NoMemory.new.self.phase (Err stops.NoMemory) c.requires.phase refl refl
     (λ fit. stop_turn (operator_of g.O.Operator c.args.op.now) (g.R.Rooms.view c.args.rooms.now) (g.R.Rooms.view c.leave_book-in-NoMemory.new.rooms) (g.O.Operator.rest c.args.op.now) (core_of c.args.self.now) (g.R.Rooms.view c.enter_book.new.rooms) fit c.in-Some.book c.stop_in-in-NoMemory.new.book (core_of c.stop_in-in-NoMemory.new.self) c.stop_in-in-NoMemory.new.self.phase [] c.in-Some.ensures.book c.in-Some.ensures.some c.leave_book-in-NoMemory.ensures.view
     (λ e. let h = c.stop_in-in-NoMemory.ensures.calls e in (h.0 ∙ c.in-Err.ensures.err, h.1, h.2))

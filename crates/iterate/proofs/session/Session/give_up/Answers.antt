@@ -6,7 +6,7 @@ use Rattle.rooms.specs.HandedOut.{IsLost}
 use Rattle.rooms.specs.RoomsViews.{RoomsView}
 use Rattle.rooms.specs.declared.values.Value.{Value}
 use Rattle.iterate.specs.SessionViews.{Core, core_of}
-use Rattle.iterate.specs.Visits.{BookWasVisited, GaveUp, has_calls, is_over, owes}
+use Rattle.iterate.specs.Visits.{BookWasVisited, GaveUp, is_over, owes}
 use Rattle.iterate.specs.declared.session.Phase.{Phase as CodePhase}
 use Rattle.iterate.specs.declared.session.Phase.TheVariants as code
 use Rattle.iterate.proofs.session.Session.give_up.Goals as goal

@@ -1,11 +1,9 @@
-use Rattle.std.proofs.Common.{◌≡◌, ℕ, Option, Some, None, List, [], sym, ◌∙◌, refl, ap, subst, Err}
-use Rattle.gx_base.specs.declared.calls.Call.{Call}
+use Rattle.std.proofs.Common.{[], sym, subst}
 use Rattle.commit_book.specs.SerialRuns.{operator_of}
-use Rattle.iterate.specs.Bodies.{HasGoneOn, IsAskedIn}
 use Rattle.iterate.specs.SessionViews.{Core, core_of, view_of}
 use Rattle.iterate.specs.Turns.{TakesTurn}
 use Rattle.iterate.specs.Visits.{GaveUp}
-use Rattle.iterate.proofs.GoTurns.{go_lift, go_fits, go_stops, go_free}
+use Rattle.iterate.proofs.GoTurns.{go_lift, go_fits, go_stops}
 use Rattle.iterate.proofs.session.Session.go.Goals as goal
 
 pub call-requires-clause-fit : goal.call-requires-clause-fit

@@ -1,4 +1,4 @@
-use Rattle.std.proofs.Common.{sym, ◌∙◌, refl, Ok}
+use Rattle.std.proofs.Common.{◌∙◌, Ok}
 use Rattle.commit_book.specs.SerialRuns.{operator_of}
 use Rattle.iterate.specs.SessionViews.{core_of}
 use Rattle.iterate.specs.declared.events.Event.TheVariants as events

@@ -1,6 +1,6 @@
-use Rattle.std.proofs.Common.{refl, ap, ◌∙◌, Ok, []}
+use Rattle.std.proofs.Common.{refl, ◌∙◌, Ok, []}
 use Rattle.commit_book.specs.SerialRuns.{operator_of}
-use Rattle.iterate.specs.SessionViews.{Core, core_of}
+use Rattle.iterate.specs.SessionViews.{core_of}
 use Rattle.iterate.specs.declared.events.Event.TheVariants as events
 use Rattle.iterate.specs.declared.session.Phase.TheVariants as code
 use Rattle.iterate.proofs.ShownTurns.{shown}

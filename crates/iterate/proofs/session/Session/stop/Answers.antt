@@ -1,6 +1,6 @@
-use Rattle.std.proofs.Common.{List, sym, ◌∙◌, refl, ap, subst}
+use Rattle.std.proofs.Common.{List, subst}
 use Rattle.gx_base.specs.declared.items.Item.{Item}
-use Rattle.iterate.specs.SessionViews.{Core, core_of}
+use Rattle.iterate.specs.SessionViews.{core_of}
 use Rattle.iterate.specs.Visits.{GaveUp}
 use Rattle.iterate.proofs.session.Session.stop.Goals as goal
 

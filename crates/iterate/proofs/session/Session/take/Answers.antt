@@ -1,7 +1,7 @@
 use Rattle.std.proofs.Common.{◌≡◌, Some, None, sym, ◌∙◌, refl, ap, Ok, Err}
 use Rattle.commit_book.specs.BookViews.{free_item, next_free, give_found}
 use Rattle.commit_book.specs.SerialRuns.{operator_of}
-use Rattle.iterate.specs.SessionViews.{Core, core_of, begins}
+use Rattle.iterate.specs.SessionViews.{core_of, begins}
 use Rattle.iterate.specs.declared.events.Event.TheVariants as events
 use Rattle.iterate.specs.declared.events.Stop.TheVariants as stops
 use Rattle.iterate.specs.declared.session.Phase.TheVariants as code

@@ -1,4 +1,4 @@
-use Rattle.std.proofs.Common.{sym, ◌∙◌, refl, ap, Ok}
+use Rattle.std.proofs.Common.{refl, Ok}
 use Rattle.commit_book.specs.SerialRuns.{operator_of}
 use Rattle.iterate.specs.SessionViews.{Core, core_of}
 use Rattle.iterate.specs.declared.events.Event.TheVariants as events

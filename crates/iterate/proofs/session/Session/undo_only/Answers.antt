@@ -1,9 +1,9 @@
-use Rattle.std.proofs.Common.{sym, ◌∙◌, refl, ap, subst, Ok, ◌<◌, ◌≡◌, false}
+use Rattle.std.proofs.Common.{◌∙◌, refl, Ok}
 use Rattle.commit_book.specs.SerialRuns.{operator_of}
-use Rattle.rooms.specs.RoomsViews.{RoomsView, is_held, left}
+use Rattle.rooms.specs.RoomsViews.{left}
 use Rattle.rooms.specs.Values.{tells}
 use Rattle.rooms.specs.declared.values.Value.TheVariants.{Book}
-use Rattle.iterate.specs.SessionViews.{Core, core_of}
+use Rattle.iterate.specs.SessionViews.{core_of}
 use Rattle.iterate.specs.declared.events.Event.TheVariants as events
 use Rattle.iterate.specs.declared.session.Phase.TheVariants as code
 use Rattle.iterate.proofs.ShownTurns.{shown}
