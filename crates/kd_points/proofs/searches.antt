@@ -1,3 +1,4 @@
+pub mod Searched
 pub mod Pruning
 pub mod Visits
 pub mod Work

@@ -1,3 +1,4 @@
+pub mod LiveNodes
 pub mod Ways
 pub mod Holders
 pub mod Marks

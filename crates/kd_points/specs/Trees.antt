@@ -57,18 +57,9 @@ abbrev pub depth_of : Option Node → Option ℕ
 depth_of None = None
 depth_of (Some n) = Some n.depth
 
--- this is a live node of the spot
-abbrev pub IsNodeOf : Option Node → Spot → Type 0
-IsNodeOf None r = ⊥
-IsNodeOf (Some n) r = (n.live ≡ true) × (n.spot ≡ r)
-
 -- the node holds the point of this id
 abbrev pub is_point_of : ℤ → Node → Bool
 is_point_of id n = n.live && int_eq n.spot.id id
-
--- some node holds the point
-abbrev pub IsLive : Nodes → Spot → Type 0
-IsLive look r = (i : ℕ) × IsNodeOf (look i) r
 
 -- the numbers of a spot fit in 64 bits
 abbrev pub FitsSpot : Spot → Type 0

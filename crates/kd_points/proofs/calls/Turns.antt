@@ -5,16 +5,15 @@ use Rattle.std.specs.Ordering.{int_eq}
 use Rattle.gx_base.specs.declared.calls.Call.{Call}
 use Rattle.gx_base.specs.declared.calls.Reply.{Reply}
 use Rattle.gx_base.specs.declared.calls.Spot.{Spot}
-use Rattle.gx_base.specs.Meanings.{number_reply}
 use Rattle.gx_base.specs.PointKind.{spot_of, spot_at, place_of}
-use Rattle.gx_base.specs.RowActions.{Turn, turns, action_next, action_reply, same_content}
+use Rattle.gx_base.specs.RowActions.{turns, same_content}
 use Rattle.gx_base.specs.Spots.{spot_of_call}
 use Rattle.gx_base.proofs.CallerLemmas.{same_content-is}
-use Rattle.gx_base.specs.States.{State, row_at, with_row}
+use Rattle.gx_base.specs.States.{row_at}
 use Rattle.kd_points.specs.declared.nodes.Node.{Node}
 use Rattle.kd_points.specs.declared.tree.Tree.{Tree}
 use Rattle.kd_points.specs.PointsState.{changed_room}
-use Rattle.kd_points.specs.Trees.{IsNodeOf, IsLive}
+use Rattle.kd_points.proofs.trees.LiveNodes.{IsNodeOf, IsLive}
 use Rattle.kd_points.specs.TreeStates.{place, node_at, tree_state, holds_spot, has_node, KeepsNodes}
 use Rattle.kd_points.proofs.searches.Ends.{there_live}
 use Rattle.kd_points.proofs.trees.Holders.{holds-at}
@@ -45,13 +44,6 @@ missing_row tree id given found wanted e f g = sym (ap (λ o. same_content o (So
 pub found_row : (tree : Tree) (id given : ℤ) (found : Option Spot) (r : Spot) (wanted : List ℤ) → given ≡ id → found ≡ spot_at (tree_state tree) given → found ≡ Some r
     → same_content (Some (place r)) (Some wanted) ≡ turns true (Some wanted) (tree_state tree) id
 found_row tree id given found r wanted e f g = sym (ap (λ o. same_content o (Some wanted)) (row_is tree id given found (Some r) e f g))
-
--- a turn that is made, or not
-pub turned_next : (allowed : Bool) (found left : Option (List ℤ)) (s : State) (x : ℤ) (b : Bool) → turns allowed found s x ≡ b → action_next (Turn allowed found left) s x ≡ (if b then with_row s (0, x) left else s)
-turned_next allowed found left s x b e = ap (λ c. if c then with_row s (0, x) left else s) e
-
-pub turned_reply : (allowed : Bool) (found left : Option (List ℤ)) (s : State) (x : ℤ) (b : Bool) → turns allowed found s x ≡ b → action_reply (Turn allowed found left) s x ≡ number_reply (if b then pos 1 else pos 0)
-turned_reply allowed found left s x b e = ap (λ c. number_reply (if c then pos 1 else pos 0)) e
 
 -- where a remove finds its place, the tree has a node for the spot
 node_held : (slots : List (Option Node)) (i : ℕ) (o : Option Node) (r : Spot) → slice_index_or slots i None ≡ o → IsNodeOf o r → holds_spot slots r ≡ true

@@ -15,7 +15,8 @@ use Rattle.gx_base.specs.PointKind.{spot_of, spot_at}
 use Rattle.kd_points.specs.declared.nodes.Node.{Node}
 use Rattle.kd_points.specs.declared.tree.Tree.{Tree}
 use Rattle.kd_points.specs.NearestPoints.{spot_at-with}
-use Rattle.kd_points.specs.Trees.{Nodes, is_point_of, IsNodeOf, IsLive}
+use Rattle.kd_points.specs.Trees.{Nodes, is_point_of}
+use Rattle.kd_points.proofs.trees.LiveNodes.{IsNodeOf, IsLive}
 use Rattle.kd_points.specs.TreeStates.{node_at, key_of, place, row_of_node, rows_of, tree_state, dead_nodes, count_of, IsSound, IsBlank, NoPoint}
 use Rattle.kd_points.specs.Rebuilding.{IsPointOf, HasPoint, Gathers, IsRebuilt}
 use Rattle.kd_points.proofs.states.Basics.{none_some, some_is, same_int, int_eq-of, not_both}
@@ -74,10 +75,6 @@ gathers_one old new spot e d = record { none_else = λ r h. by_id r (int_eq r.id
 
     here : (r : Spot) → spot ≡ r → HasPoint new r.id
     here r same = ap is_some (spot_now r.id ∙ ap (λ b. cond b (spot_of r.id (Some (place spot))) (spot_at (tree_state old) r.id)) (int_eq-of r.id spot.id (ap (λ (s : Spot). s.id) (sym same))))
-
-pub gathers_none : (tree : Tree) (spots : List Spot) → length spots ≡ 0 → Gathers tree tree spots
-gathers_none tree [] e = record { none_else = λ r h. inl h; stay = λ id h. h; all = λ r h. absurd (let b : h.0 < 0 = h.1 in omega arith); dead = omega arith }
-gathers_none tree (x ∷ spots) e = absurd (omega arith)
 
 -- the parts of a list, one after another
 pub gathers_parts : (a b c d : Tree) (spots front back : List Spot) (middle : Spot) → IsPermutation spots (front ++ middle ∷ back) → Gathers a b (middle ∷ []) → Gathers b c front → Gathers c d back → Gathers a d spots

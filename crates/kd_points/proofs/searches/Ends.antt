@@ -7,9 +7,10 @@ use Rattle.gx_base.specs.PointKind.{spot_of, spot_at, nearest}
 use Rattle.kd_points.specs.declared.nodes.Node.{Node}
 use Rattle.kd_points.specs.declared.tree.Tree.{Tree}
 use Rattle.kd_points.specs.NearestPoints.{IsNearest, nearest-when}
-use Rattle.kd_points.specs.Trees.{is_point_of, IsNodeOf, IsLive}
+use Rattle.kd_points.specs.Trees.{is_point_of}
+use Rattle.kd_points.proofs.trees.LiveNodes.{IsNodeOf, IsLive}
 use Rattle.kd_points.specs.TreeStates.{node_at, key_of, place, row_of_node, tree_state, IsSound}
-use Rattle.kd_points.specs.Searches.{Within, IsAwaitedIn, IsSearched}
+use Rattle.kd_points.proofs.searches.Searched.{Within, IsAwaitedIn, IsSearched}
 use Rattle.kd_points.proofs.states.Basics.{none_some, some_is, and_parts, same_int}
 use Rattle.kd_points.proofs.states.StateRows.{row_found, get-rows_of, owner_spot}
 

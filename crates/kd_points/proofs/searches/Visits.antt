@@ -9,8 +9,10 @@ use Rattle.kind_tables.proofs.CallerLemmas.{both, not_true}
 use Rattle.kd_points.specs.declared.nodes.Node.{Node}
 use Rattle.kd_points.specs.declared.search.Pending.{Pending}
 use Rattle.kd_points.specs.NearestPoints.{beyond-upto, beyond-back, beyond-itself}
-use Rattle.kd_points.specs.Trees.{Nodes, is_left, child, child_of, way, IsNodeOf, IsLive, IsTree}
-use Rattle.kd_points.specs.Searches.{Leads, Within, IsLiveOther, other_of, to_plane, IsAwaited, IsAwaitedIn, IsSearched, pending_at, sides_of}
+use Rattle.kd_points.specs.Trees.{Nodes, is_left, child, child_of, way, IsTree}
+use Rattle.kd_points.proofs.trees.LiveNodes.{IsNodeOf, IsLive}
+use Rattle.kd_points.specs.Searches.{other_of, to_plane, pending_at, sides_of}
+use Rattle.kd_points.proofs.searches.Searched.{Leads, Within, IsLiveOther, IsAwaited, IsAwaitedIn, IsSearched}
 use Rattle.kd_points.proofs.states.Basics.{none_some, some_is}
 use Rattle.kd_points.proofs.searches.Pruning.{plane_before, by_distance}
 

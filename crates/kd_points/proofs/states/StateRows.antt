@@ -13,7 +13,7 @@ use Rattle.gx_base.proofs.CallerLemmas.{row_cmp_total, row_cmp-IsAntisymmetric, 
 use Rattle.kd_points.specs.declared.nodes.Node.{Node}
 use Rattle.kd_points.specs.Trees.{Nodes, is_point_of, IsOwner}
 use Rattle.kd_points.specs.TreeStates.{place, row_of_node, rows_of}
-use Rattle.kd_points.proofs.states.Basics.{same_int, int_eq-of, false_of, and_parts, some_is}
+use Rattle.kd_points.proofs.states.Basics.{same_int, int_eq-of, false_of, some_is}
 
 -- points with these rows
 abbrev pub with_rows : map.FinMap row_cmp (List ℤ) → State
@@ -58,9 +58,6 @@ by_rows look es other here there = map.same_map row_cmp_total row_cmp-IsAntisymm
 
 pub rows_of-same : (look next : Nodes) (es fs : List (ℤ × ℕ)) → ((id : ℤ) → row_found next id (lookup (int_eq id) fs) ≡ row_found look id (lookup (int_eq id) es)) → rows_of next fs ≡ rows_of look es
 rows_of-same look next es fs h = by_rows next fs (rows_of look es) (λ id. get-rows_of look es id ∙ sym (h id)) (λ i k n. get-rows_of-other look es i k n)
-
-pub rows_of-empty : (look : Nodes) → rows_of look [] ≡ map.empty
-rows_of-empty look = refl
 
 -- a change of what stands for one id
 pub record Settles (look next : Nodes) (numbers after : ℤ → Option ℕ) (id : ℤ) (row : Option (List ℤ)) : Type 0 where
@@ -114,12 +111,6 @@ pub no_point : (look : Nodes) (es : List (ℤ × ℕ)) (id : ℤ) (found : Optio
     → is_point_of id n ≡ false → row_at (with_rows (rows_of look es)) (0, id) ≡ None
 no_point look es id found key held n f e g h p =
     get-rows_of look es id ∙ ap (row_found look id) (sym f ∙ e) ∙ ap (row_of_node id) (sym g ∙ h) ∙ ap (λ b. if b then Some (place n.spot) else None) p
-
-pub is_owner : (look : Nodes) (es : List (ℤ × ℕ)) (id : ℤ) (found : Option ℕ) (key : ℕ) (node : Option Node) (n : Node) → found ≡ lookup (int_eq id) es → found ≡ Some key → node ≡ look key → node ≡ Some n
-    → is_point_of id n ≡ true → IsOwner look (λ q. lookup (int_eq q) es) id key
-is_owner look es id found key held n f e g h p =
-    let parts : (n.live ≡ true) × (int_eq n.spot.id id ≡ true) = and_parts n.live (int_eq n.spot.id id) p in
-    record { node = n; numbered = sym f ∙ e; there = sym g ∙ h; live = parts.0; named = same_int n.spot.id id parts.1 }
 
 -- the row of an owner
 pub owner_row : (look : Nodes) (es : List (ℤ × ℕ)) (id : ℤ) (key : ℕ) (o : IsOwner look (λ q. lookup (int_eq q) es) id key) → row_at (with_rows (rows_of look es)) (0, id) ≡ Some (place o.node.spot)

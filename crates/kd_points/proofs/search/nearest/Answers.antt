@@ -2,7 +2,8 @@ use Rattle.std.proofs.Common.{◌≡◌, ◌++◌, [], ◌-◌, take, vec_len, L
 use Rattle.slab.specs.Slab.{slab_len}
 use Rattle.kd_points.specs.declared.search.Pending.{Pending}
 use Rattle.kd_points.specs.TreeStates.{node_at, key_of}
-use Rattle.kd_points.specs.Searches.{IsSearched, pending_at}
+use Rattle.kd_points.specs.Searches.{pending_at}
+use Rattle.kd_points.proofs.searches.Searched.{IsSearched}
 use Rattle.kd_points.proofs.searches.Visits.{begun, skipped_from, passed_from, visited_from}
 use Rattle.kd_points.proofs.searches.Work.{less_from, sides_from}
 use Rattle.kd_points.proofs.searches.Ends.{found_nearest}

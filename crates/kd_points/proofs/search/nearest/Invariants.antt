@@ -1,6 +1,6 @@
 use Rattle.slab.specs.Slab.{slab_len}
 use Rattle.kd_points.specs.TreeStates.{node_at}
-use Rattle.kd_points.specs.Searches.{IsSearched}
+use Rattle.kd_points.proofs.searches.Searched.{IsSearched}
 use Rattle.kd_points.proofs.searches.Work.{work}
 use Rattle.kd_points.proofs.search.nearest.Given as goal
 
