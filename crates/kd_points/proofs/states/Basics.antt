@@ -38,10 +38,6 @@ some_is {A = A} x y e = cc
 pub none_some : {A : Type 0} (x : A) → None ≡ Some x → ⊥
 none_some {A = A} x e = cc
 
-pub some_of : {A : Type 0} (o : Option A) → is_some o ≡ true → (x : A) × (o ≡ Some x)
-some_of None e = absurd (cc)
-some_of (Some x) e = (x, refl)
-
 -- two keys are the same, or they aren't
 pub same_key : (i j : ℕ) → (i ≡ j) ⊎ (i ≡ j → ⊥)
 same_key zero zero = inl refl

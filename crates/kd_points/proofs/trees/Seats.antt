@@ -5,7 +5,7 @@ use Rattle.gx_base.specs.declared.calls.Spot.{Spot}
 use Rattle.kd_points.specs.declared.nodes.Node.{Node}
 use Rattle.kd_points.specs.Trees.{Nodes, is_left, child, child_of, way, depth_of, IsTree}
 use Rattle.kd_points.specs.TreeStates.{holds_spot}
-use Rattle.kd_points.proofs.states.Basics.{false_of, none_some, some_is, some_of}
+use Rattle.kd_points.proofs.states.Basics.{false_of, none_some, some_is}
 use Rattle.kd_points.proofs.trees.Ways.{ended, way_further, way_over}
 use Rattle.kd_points.proofs.trees.Holders.{Holds, holds-where}
 
@@ -26,17 +26,7 @@ depth_there (Some n) d e = refl
 depth_is : (o : Option Node) (d : ℕ) (n : Node) → depth_of o ≡ Some d → o ≡ Some n → n.depth ≡ d
 depth_is o d n e g = some_is n.depth d (sym (ap depth_of g) ∙ e)
 
-zero-le : (n d : ℕ) → n ≡ 0 → n ≤ d
-zero-le n d e = omega arith
-
 module _ (look : Nodes) (root : Option ℕ) (size : ℕ) (numbers : ℤ → Option ℕ) (t : IsTree look root size numbers) (spot : Spot) where
-  pub at_root : (r : ℕ) → root ≡ Some r → OnWay look root spot r
-  at_root r e = record {
-    there = depth_there (look r) 0 (t.rooted r e);
-    on_way = λ n g. ap (λ d. way look spot d root) (depth_is (look r) 0 n (t.rooted r e) g) ∙ e;
-    deeper = λ n j m g h s. zero-le n.depth m.depth (depth_is (look r) 0 n (t.rooted r e) g);
-  }
-
   -- where this node isn't the spot's, those of the spot stand deeper
   past : (at : ℕ) (n : Node) → OnWay look root spot at → look at ≡ Some n → (n.spot ≡ spot → ⊥) → (j : ℕ) (m : Node) → look j ≡ Some m → m.spot ≡ spot → n.depth < m.depth
   past at n w g other j m h s =
@@ -57,15 +47,6 @@ module _ (look : Nodes) (root : Option ℕ) (size : ℕ) (numbers : ℤ → Opti
         let d : m.depth ≡ suc n.depth = depth_is (look next) (suc n.depth) m (t.nested at next n left g e) h in
         let b : n.depth < x.depth = past at n w g other j x k s in omega arith;
   }
-
-  pub nearer_end : (at next : ℕ) (n : Node) (left : Bool) → look at ≡ Some n → child n left ≡ Some next → size - depth_or_zero (look next) < size - depth_or_zero (look at)
-  nearer_end at next n left g e =
-      let o : (m : Node) × (look next ≡ Some m) = some_of (look next) (depth_there (look next) (suc n.depth) (t.nested at next n left g e)) in
-      let d : o.0.depth ≡ suc n.depth = depth_is (look next) (suc n.depth) o.0 (t.nested at next n left g e) o.1 in
-      let b : n.depth < size = t.shallow at n g in
-      let p : depth_or_zero (look next) ≡ o.0.depth = ap depth_or_zero o.1 in
-      let q : depth_or_zero (look at) ≡ n.depth = ap depth_or_zero g in
-      omega arith
 
   -- where the way ends, the spot has no node
   pub nowhere : (slots : List (Option Node)) → ((i : ℕ) (x : Node) → slice_index_or slots i None ≡ Some x → look i ≡ Some x) → (at : ℕ) (n : Node) (left : Bool)
