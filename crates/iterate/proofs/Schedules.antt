@@ -72,10 +72,10 @@ module _ (op : Operator) where
   unfolding scheduled limit_of_scheduled
   rests now [] e = (refl, refl, tt)
   rests now (worker ∷ rest) e = (
-      ap (λ (b : Bool). if b then now else scheduled op (then_turned now worker (turn_at op (place_of now.machine worker) worker)) rest) e,
-      ap (λ (b : Bool). if b then None else or_later (limit_in op now.machine worker) (limit_of_scheduled op (then_turned now worker (turn_at op (place_of now.machine worker) worker)) rest)) e,
-      λ n. absurd (no_bool (is_empty now.machine.book.ready) e n)
-      )
+    ap (λ (b : Bool). if b then now else scheduled op (then_turned now worker (turn_at op (place_of now.machine worker) worker)) rest) e,
+    ap (λ (b : Bool). if b then None else or_later (limit_in op now.machine worker) (limit_of_scheduled op (then_turned now worker (turn_at op (place_of now.machine worker) worker)) rest)) e,
+    λ n. absurd (no_bool (is_empty now.machine.book.ready) e n),
+  )
 
   -- nothing is ready
   pub ends_early : (first now : Run) (schedule rest : List ℕ) → LeadsOn op first schedule now rest → is_empty now.machine.book.ready ≡ true → Ends first schedule now

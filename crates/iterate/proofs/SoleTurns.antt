@@ -124,7 +124,6 @@ module _ {T S : Type 0} where
 
   module _ (op : Operator) (a b : RoomsView (Value T S)) (s t : SessionView) (worker : ℕ) (told_a : AreTold tells a) (told_b : AreTold tells b) (may : MayTurn op a worker s)
       (never : (room : ℕ) → HasRisen (a.lost room) (b.lost room) → ⊥) where
-
     none_lost : (lost : Option ℕ) → IsLostIn a b s lost → lost ≡ None
     none_lost None h = refl
     none_lost (Some room) h = absurd (never room (h.risen room refl))

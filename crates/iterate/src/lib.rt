@@ -5,6 +5,10 @@
 //! turn is `Busy` or is cut short there. A turn never waits, and one that takes calls back or releases them takes no memory.
 //! After a commit `session.pushed()` has its pushes.
 //!
+//! `play(alloc, rooms, &op, workers, &schedule)` is a whole run over rooms that one caller enters for all workers: the turns of a
+//! schedule, then the drain, then worker 0 alone. What it answers is the run of the machine that the values were at first
+//! (`specs/Plays.antt`), and so serial. Its parts stand in `sole_turns`, `scheduling`, `draining` and `lone`.
+//!
 //! Start at `Session::turn` in `src/session.rt`. `specs/Places.antt` says when a session may take a turn (`IsFit`) and which
 //! place of the machine it stands on, `specs/Turns.antt` what a turn does and answers (`HasTurned`), `specs/SharedTurns.antt`
 //! what the machine's turn becomes where a room was held. Each phase has a file: `taking`, `calling`, `committing`,
@@ -22,8 +26,8 @@ mod plays;
 mod releases;
 mod scheduling;
 mod session;
-mod taking;
 mod sole_turns;
+mod taking;
 mod undoing;
 
 pub use events::{Event, Stop, Turn};

@@ -56,7 +56,7 @@ impl<V: Vacant> VecRooms<V> {
         requires { (room : ℕ) → is_held (view_of V.told self.now) room ≡ false }
         ensures { (room : ℕ) → slice_get result.now room ≡ (view_of V.told self.now).told room }
     {
-        self.values.as_slice()
+        &self.values
     }
 
     /// These rooms tell what each of them has. For proofs: it does nothing.
