@@ -39,7 +39,7 @@ use Rattle.iterate.specs.Visits.{WasVisited, GaveUp}
 use Rattle.iterate.proofs.Logs.{log_sound, sound_log, others_admit}
 use Rattle.iterate.proofs.Standing.{base_place, base_gates, base_book_in, base_stands}
 use Rattle.iterate.proofs.Visiting.{same_gates, other_than_book}
-use Rattle.iterate.proofs.Turning.{whole, no_loss}
+use Rattle.iterate.proofs.Turning.{whole, no_loss, some_number}
 use Rattle.iterate.proofs.BookTurns.{free_of, body_of, lost_turn}
 use Rattle.iterate.proofs.GateVisits.{gate_stands, gate_turn, gate_log, gate_visit_free, gate_visit_lost, gate_visit_book}
 use Rattle.iterate.proofs.GivingUp.{Quiet, quiet_visit, gave_up_turn}
@@ -108,12 +108,13 @@ module _ {T S St : Type 0} (op : Operator) (a x b : RoomsView (Value T S)) (rest
       (λ n. record {
         may = refl;
         cause = tt;
+        held = λ r e. absurd (cc);
         place_is = sym (unless_true (has_no_step c.log) (let_go (p (base_book_in a None)) c.worker running.at) (undone (base_book_in a None)) n);
         opened_is = refl;
         pushed_is = refl;
       })
-      (λ bk n o. record { may = refl; cause = tt; place_is = sym (where_true (has_no_step c.log) (let_go (p bk) c.worker running.at) (undone bk) n); opened_is = refl; pushed_is = refl })
-      (λ n. record { may = refl; cause = tt; place_is = refl; opened_is = refl; pushed_is = refl })
+      (λ bk n o. record { may = refl; cause = tt; held = λ r e. absurd (cc); place_is = sym (where_true (has_no_step c.log) (let_go (p bk) c.worker running.at) (undone bk) n); opened_is = refl; pushed_is = refl })
+      (λ n. record { may = refl; cause = tt; held = λ r e. sym (some_number e); place_is = refl; opened_is = refl; pushed_is = refl })
 
   pub stopped_turn : IsFit op a s → Quiet a x → (has_no_step c.log ≡ true → needs a.book s a.book ≡ true) → (new : Core) (phase : CodePhase St) → GaveUp x b none_pushed new phase → TakesTurn op a b s (view_in rest new phase) (Err stops.NoMemory)
   stopped_turn fit quiet needed new phase gave_up =

@@ -183,6 +183,7 @@ module _ {T S St : Type 0} (op : Operator) (a b : RoomsView (Value T S)) (rest :
         (λ e. record {
           may = refl;
           cause = cause;
+          held = λ r e. absurd (cc);
           place_is = (λ i. record { gates = p.gates; book = was; session = record undoing_view.at { outcome = record { steps = c.log; pushes = none i; withdrawn = [] } } })
               ∙ sym (unless_true (has_no_step c.log) (let_go p c.worker finished.at) (record { gates = p.gates; book = was; session = undone_to finished.at c.log }) e);
           opened_is = refl;
@@ -191,6 +192,7 @@ module _ {T S St : Type 0} (op : Operator) (a b : RoomsView (Value T S)) (rest :
         (λ e. record {
           may = refl;
           cause = cause;
+          held = λ r e. absurd (cc);
           place_is = sym (where_true (has_no_step c.log) (let_go p c.worker finished.at) (record { gates = p.gates; book = was; session = undone_to finished.at c.log }) e);
           opened_is = refl;
           pushed_is = refl;

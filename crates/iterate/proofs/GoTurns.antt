@@ -183,6 +183,7 @@ module _ {T S : Type 0} (op : Operator) (a b : RoomsView (Value T S)) (c : Core)
       answers_same t q lost (Err stop) n h = record {
         may = refl;
         cause = cause_same stop h.cause;
+        held = h.held;
         place_is = h.place_is ∙ stopped_by phase refl h.may n lost ∙ stopped_same lost;
         opened_is = h.opened_is;
         pushed_is = h.pushed_is;

@@ -53,8 +53,8 @@ TellsRight p worker _ = ⊤
 
 -- ---- the room that was held
 
--- The turn found this room held, if any. It needs that room, and its count of lost takes rose. No other count did, and only a turn
--- that found a room held is busy.
+-- The turn found this room held, if any. It needs that room, and its count of lost takes rose. No other count did. A turn that found
+-- none is the machine's, which is never busy.
 pub record IsLostIn {V : Type 0} (before after : RoomsView V) (session : SessionView) (lost : Option ℕ) : Type 0 where
   pub needed : (room : ℕ) → lost ≡ Some room → needs before.book session room ≡ true
   pub risen : (room : ℕ) → lost ≡ Some room → HasRisen (before.lost room) (after.lost room)
@@ -106,9 +106,11 @@ IsCause stops.Spent passed = passed ≡ Some limit.Spent
 IsCause stops.Kept passed = passed ≡ Some limit.Kept
 IsCause stops.NoMemory passed = ⊤
 
-pub record HasStopped (op : Operator) (before after : SessionView) (p q : Place) (lost : Option ℕ) (stop : Stop) : Type 0 where
+pub record HasStopped (op : Operator) (book : ℕ) (before after : SessionView) (p q : Place) (lost : Option ℕ) (stop : Stop) : Type 0 where
   pub may : may_stop before before.opened ≡ true
   pub cause : IsCause stop (limit_on op p before.worker)
+  -- at most the book was held, into which the item was to be put back
+  pub held : (room : ℕ) → lost ≡ Some room → room ≡ book
   pub place_is : q ≡ stopped_at p before.worker before.at.phase lost
   pub opened_is : after.opened ≡ None
   pub pushed_is : after.pushed ≡ before.pushed
@@ -116,7 +118,7 @@ pub record HasStopped (op : Operator) (before after : SessionView) (p q : Place)
 abbrev pub Answers : Operator → (book : ℕ) → (before after : SessionView) → (p q : Place) → Option ℕ → Result CodeEvent Stop → Type 0
 Answers op book before after p q lost (Ok event) =
     IsAfter (shared_turn op book before p lost) (event_of event) after q × TellsRight p before.worker event × GoesWell op book p before.worker before.opened lost
-Answers op book before after p q lost (Err stop) = HasStopped op before after p q lost stop
+Answers op book before after p q lost (Err stop) = HasStopped op book before after p q lost stop
 
 -- ---- the rest
 
