@@ -3,10 +3,10 @@ ghost use Rattle.commit_book.specs.SerialRuns.{operator_of};
 ghost use Rattle.speculation.specs.Limits.{Limit, limit_of_alone};
 ghost use Rattle.rooms.specs.Values.{tells};
 ghost use Rattle.rooms.specs.Visits.{view_of as rooms_view};
-ghost use Rattle.iterate.specs.PlayedTurns.{machine_of, sessions_of, IsLoneRun, MayAllTurn};
+ghost use Rattle.iterate.specs.PlayedTurns.{machine_of, sessions_of, IsLoneRun, MayAllTurn, TurnAnswers};
 ghost use Rattle.iterate.specs.Plays.{stop_of};
 
-use crate::events::Stop;
+use crate::events::{Event, Stop};
 use crate::session::Session;
 use crate::sole_turns::{nothing_is_ready, take_turn};
 use commit_book::Operator;
@@ -14,7 +14,23 @@ use gate_core::Screen;
 use gx_base::SeqType;
 use rooms::{Value, VecRooms};
 
-/// Worker 0 goes on alone until no item is ready.
+// A turn of worker 0.
+fn lone_turn<O: Operator, T: SeqType, S: Screen<T>>(
+    rooms: &mut VecRooms<Value<T, S>>,
+    op: &O,
+    sessions: &mut [Session<O>],
+) -> Result<Event, Stop>
+    requires unordered { O.is_ordered op.now ≡ false }
+    requires some { 0 < length sessions.old }
+    requires fit { MayAllTurn (operator_of O.Operator op.now) (rooms_view tells rooms.old) (O.rest op.now) sessions.old }
+    ensures turned { TurnAnswers (operator_of O.Operator op.now) (machine_of (rooms_view tells rooms.old) (sessions_of (O.rest op.now) sessions.old)) (machine_of (rooms_view tells rooms.new) (sessions_of (O.rest op.now) sessions.new)) 0 result }
+    ensures fit { MayAllTurn (operator_of O.Operator op.now) (rooms_view tells rooms.new) (O.rest op.now) sessions.new }
+{
+    take_turn(rooms, op, sessions, 0)
+}
+
+/// Worker 0 goes on alone until no item is ready. It makes no more than 2^64 - 1 turns: after so many the answer is that of
+/// want of memory.
 pub fn run_alone<O: Operator, T: SeqType, S: Screen<T>>(
     rooms: &mut VecRooms<Value<T, S>>,
     op: &O,
@@ -31,7 +47,7 @@ pub fn run_alone<O: Operator, T: SeqType, S: Screen<T>>(
         if nothing_is_ready(rooms) {
             return Ok(());
         }
-        take_turn(rooms, op, sessions, 0)?;
+        lone_turn(rooms, op, sessions)?;
     }
     Err(Stop::NoMemory)
 }

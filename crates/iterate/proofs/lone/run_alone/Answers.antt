@@ -25,11 +25,11 @@ loop-turn-preserved g c =
     let op = operator_of g.O.Operator c.args.op.now in
     let m = machine_of (rooms_view tells c.args.rooms.now) (sessions_of rest c.args.sessions.now) in
     let now = machine_of (rooms_view tells c.loop-turn.rooms) (sessions_of rest c.loop-turn.sessions) in
-    let after = machine_of (rooms_view tells c.take_turn.new.rooms) (sessions_of rest c.take_turn.new.sessions) in
+    let after = machine_of (rooms_view tells c.lone_turn.new.rooms) (sessions_of rest c.lone_turn.new.sessions) in
     record {
-      count = c.take_turn.auto.sessions ∙ c.loop-turn.invariant.count;
-      leads = leads_one_more op m now after (event_of c.in_ok-take_turn.field-0) c.loop-turn.invariant.leads (sym c.nothing_is_ready.ensures ∙ c.if-nothing_is_ready.false) c.in_ok-take_turn.ensures.turned;
-      fit = c.take_turn.ensures.fit;
+      count = c.lone_turn.auto.sessions ∙ c.loop-turn.invariant.count;
+      leads = leads_one_more op m now after (event_of c.in_ok-lone_turn.field-0) c.loop-turn.invariant.leads (sym c.nothing_is_ready.ensures ∙ c.if-nothing_is_ready.false) c.in_ok-lone_turn.ensures.turned;
+      fit = c.lone_turn.ensures.fit;
     }
 
 pub returns-then-nothing_is_ready-clause-run : goal.returns-then-nothing_is_ready-clause-run
@@ -40,11 +40,11 @@ returns-then-nothing_is_ready-clause-run g c =
     let now = machine_of (rooms_view tells c.loop-turn.rooms) (sessions_of rest c.loop-turn.sessions) in
     ends_alone op m now c.loop-turn.invariant.leads (sym c.nothing_is_ready.ensures ∙ c.if-nothing_is_ready.true)
 
-pub returns-in_err-take_turn-clause-limited : goal.returns-in_err-take_turn-clause-limited
-returns-in_err-take_turn-clause-limited g c = λ limit e.
+pub returns-in_err-lone_turn-clause-limited : goal.returns-in_err-lone_turn-clause-limited
+returns-in_err-lone_turn-clause-limited g c = λ limit e.
     let rest = g.O.Operator.rest c.args.op.now in
     let op = operator_of g.O.Operator c.args.op.now in
     let m = machine_of (rooms_view tells c.args.rooms.now) (sessions_of rest c.args.sessions.now) in
     let now = machine_of (rooms_view tells c.loop-turn.rooms) (sessions_of rest c.loop-turn.sessions) in
     let told = rw e at c.from_residual.ensures.1 in
-    stops_alone op m now limit _ c.loop-turn.invariant.leads (sym c.nothing_is_ready.ensures ∙ c.if-nothing_is_ready.false) c.in_err-take_turn.ensures.turned (sym told)
+    stops_alone op m now limit _ c.loop-turn.invariant.leads (sym c.nothing_is_ready.ensures ∙ c.if-nothing_is_ready.false) c.in_err-lone_turn.ensures.turned (sym told)
