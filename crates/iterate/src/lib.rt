@@ -1,9 +1,10 @@
 //! Sessions: workers that run the bodies of work items at once, over rooms that hold gates and the book.
 //!
 //! `Session::new(alloc, worker)` makes one that is idle. Each `session.turn(&mut rooms, &op)` is one event of the
-//! speculative machine, on the gate and the book that it enters; where a room that it needs is held by another caller, the
-//! turn is `Busy` or is cut short there. A turn never waits, and one that takes calls back or releases them takes no memory.
-//! After a commit `session.pushed()` has its pushes.
+//! speculative machine: where the rooms tell their values, on those gates and that book; where they don't, on some gates with
+//! the worker's own entries, and on some book. Where a room that it needs is held by another caller, the turn is `Busy` or is
+//! cut short there. A turn never waits, and one that takes calls back or releases them takes no memory. After a commit
+//! `session.pushed()` has its pushes.
 //!
 //! `play(alloc, rooms, &op, workers, &schedule)` is a whole run over rooms that one caller enters for all workers: the turns of a
 //! schedule, then the drain, then worker 0 alone. What it answers is the run of the machine that the values were at first

@@ -71,7 +71,9 @@ pub fn order(axis: Axis, p: Spot, q: Spot) -> Ordering
 pub fn is_left(node: Node, spot: Spot) -> bool
     ensures { result ≡ trees.is_left node spot }
 {
-    order(node.axis, spot, node.spot).is_lt()
+    let here = coordinate(node.axis, spot);
+    let plane = coordinate(node.axis, node.spot);
+    here < plane || (here == plane && order_of_level(spot, node.spot).is_lt())
 }
 
 pub fn child(node: Node, left: bool) -> Option<usize>

@@ -1,6 +1,7 @@
 //! Thousands of drawn sets, each with a few dozen calls, some of them taken back and done again, each answer beside
 //! the list's.
-ghost use Rattle.std.specs.Prelude.{◌<◌};
+ghost use Rattle.std.specs.Prelude.{◌<◌, ◌≡◌, IfOk, OnOk};
+ghost use Rattle.gx_base.specs.Steps.{next_state, reply_to};
 
 use crate::draws::Draws;
 use crate::list_of_points::ListOfPoints;
@@ -108,7 +109,18 @@ fn take_back(list: &mut ListOfPoints, call: Call) -> Result<(), NoMemory> {
     Ok(())
 }
 
-/// A call, or a call that is taken back and maybe done again.
+/// Does a call, takes it back and does it again.
+fn done_again<T: SeqType>(object: &mut T, call: Call) -> Result<Reply, NoMemory>
+    ensures reply { IfOk result (λ reply. reply ≡ reply_to (T.state object.old) call) }
+    ensures state { OnOk result (T.state object.new ≡ next_state (T.state object.old) call) }
+{
+    let reply = object.apply(call)?;
+    object.undo(call, reply);
+    object.redo(call, reply);
+    Ok(reply)
+}
+
+/// A call, maybe done a second time after it was taken back; and maybe it is taken back for good.
 fn step(
     points: &mut KdPoints,
     list: &mut ListOfPoints,
@@ -117,7 +129,11 @@ fn step(
     counts: &mut Counts,
 ) -> Result<(), NoMemory> {
     let call = drawn_call(draws, shape);
-    let reply = points.apply(call)?;
+    let reply = if draws.below(2) == 0 {
+        points.apply(call)?
+    } else {
+        done_again(points, call)?
+    };
     let wanted = list.apply(call)?;
     let changing = call.method == ADD || call.method == REMOVE;
     counts.differing = counted(counts.differing, reply != wanted);
@@ -169,16 +185,16 @@ fn drawn_sets_are_as_the_list(rt: HostRuntime) -> Result<(), Fail> {
     Ok(())
 }
 
-/// A call that was undone is done again, after it as before.
+/// Whether a call that is taken back can be done again and again, with the same reply and after it the same point.
 fn again(points: &mut KdPoints, call: Call) -> Result<bool, NoMemory> {
     let reply = points.apply(call)?;
     if !points.roomed(call, reply) {
         return Ok(false);
     }
-    let before = points.at(call.a);
+    let after = points.at(call.a);
     points.undo(call, reply);
-    let second = points.apply(call)?;
-    Ok(second == reply && points.at(call.a) == before)
+    let second = done_again(points, call)?;
+    Ok(second == reply && points.at(call.a) == after)
 }
 
 #[test]

@@ -4,7 +4,7 @@ use Rattle.std.proofs.Common.{sym, ◌∙◌, ap, subst, arith, inl, inr, length
 use Rattle.std.specs.FinMap as map
 use Rattle.std.specs.List.{Contains}
 use Rattle.std.specs.List.Sorted.{IsPermutation}
-use Rattle.std.proofs.lemmas.List.Sorted.{Contains-permutation, IsPermutation-sym, length_permutation}
+use Rattle.std.proofs.lemmas.List.Sorted.{Contains-permutation, IsPermutation-sym, IsPermutation-refl, length_permutation}
 use Rattle.std.proofs.lemmas.List.Elements.{Contains-append_left, Contains-append_right, Contains-append_cases}
 use Rattle.std.specs.Ordering.{int_eq}
 use Rattle.slab.specs.Slab.{slab_len, entries}
@@ -192,6 +192,16 @@ pub gathers_parts_ok : {T E : Type 0} (result : Result T E) (a b c d : Tree) (sp
     → OnOk result (Gathers a d spots)
 gathers_parts_ok (Ok x) a b c d spots front back middle p f g h = gathers_parts a b c d spots front back middle p f g h
 gathers_parts_ok (Err x) a b c d spots front back middle p f g h = tt
+
+-- no points more
+pub gathers_none : (old : Tree) (spots : List Spot) → length spots ≡ 0 → Gathers old old spots
+gathers_none old [] e = record { none_else = λ r h. inl h; stay = λ id h. h; all = λ r h. absurd (let b : h.0 < 0 = h.1 in omega arith); dead = omega arith }
+gathers_none old (s ∷ spots) e = absurd (omega arith)
+
+-- one point, and then more
+pub gathers_next_ok : {T E : Type 0} (result : Result T E) (a b d : Tree) (spots rest : List Spot) (first : Spot) → spots ≡ first ∷ rest → Gathers a b (first ∷ []) → OnOk result (Gathers b d rest) → OnOk result (Gathers a d spots)
+gathers_next_ok (Ok x) a b d spots rest first e f g = gathers_parts a b b d spots [] rest first (subst (λ xs. IsPermutation xs (first ∷ rest)) (sym e) (IsPermutation-refl (first ∷ rest))) f (gathers_none b [] refl) g
+gathers_next_ok (Err x) a b d spots rest first e f g = tt
 
 blank_dead : (tree : Tree) → IsBlank tree → dead_nodes tree ≡ 0
 blank_dead tree b = let e : slab_len tree.nodes ≡ 0 = ap (count_by (is_some {T = Node})) b.slots in omega arith
