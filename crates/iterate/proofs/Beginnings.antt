@@ -1,5 +1,5 @@
 -- Values that are new for an operator: their machine is a new one, and sessions may take their first turns.
-use Rattle.std.specs.Prelude.{◌≡◌, ◌⊎◌, ℕ, ◌+◌, ◌<◌, ◌≤◌, Bool, true, false, not, ◌&&◌, ◌==◌, if◌then◌else◌, Option, Some, None, List, [], ◌∷◌, ◌++◌, zero, suc, length, is_some, slice_get, refl}
+use Rattle.std.specs.Prelude.{◌≡◌, ◌⊎◌, ℕ, ◌<◌, ◌≤◌, Bool, true, false, not, ◌&&◌, ◌==◌, Option, Some, None, List, [], ◌∷◌, ◌++◌, zero, suc, length, is_some, slice_get, refl}
 use Rattle.std.proofs.Common.{sym, ◌∙◌, ap, subst, inl, inr, arith}
 use Rattle.std.proofs.lemmas.Bool.{cases_lt}
 use Rattle.std.proofs.lemmas.Option.{same_Some}
@@ -18,7 +18,6 @@ use Rattle.gx_base.specs.TableRows.{row_of}
 use Rattle.gx_base.specs.Tables.{IsValid, KeepsToKind}
 use Rattle.gx_base.specs.Worklists.{item_cmp, is_before, is_least}
 use Rattle.gx_base.proofs.CallerLemmas.{row_of-empty}
-use Rattle.gate_core.specs.Views.{GateView, IsLawfulGate}
 use Rattle.commit_book.specs.BookViews.{BookView}
 use Rattle.commit_book.specs.LawfulBooks.{AreAfter, AreRising, IsLawfulBook}
 use Rattle.commit_book.proofs.ready.ReadySets.{item_cmp_total}
@@ -34,10 +33,10 @@ use Rattle.rooms.specs.Values.{tells}
 use Rattle.rooms.specs.Visits.{AreTold, everyone}
 use Rattle.rooms.specs.declared.values.Value.{Value}
 use Rattle.rooms.specs.declared.values.Value.TheVariants.{Object, Book}
-use Rattle.iterate.specs.Places.{no_gate, gate_of, book_of, IfTold, IsLogOf, IsFit}
+use Rattle.iterate.specs.Places.{no_gate, gate_of, book_of, IfTold, IsLogOf}
 use Rattle.iterate.specs.declared.session.Session.{Session as CodeSession}
 use Rattle.iterate.specs.PlayedTurns.{machine_of, session_in, sessions_of, IsLawfulValue, MayTurn, MayAllTurn, AreBegun, IsPlayedRun}
-use Rattle.iterate.specs.Plays.{gate_in, book_in, begun_machine, IsNewGateIn, IsNewBookIn, AreNewFor, IsPlayed}
+use Rattle.iterate.specs.Plays.{gate_in, book_in, begun_machine, IsNewGateIn, AreNewFor, IsPlayed}
 use Rattle.iterate.specs.SessionViews.{Rests, SessionView, view_of, begun_view}
 
 -- ---- a ready set by rising item is in order
@@ -201,7 +200,7 @@ module _ {T S : Type 0} (a : RoomsView (Value T S)) (told : AreTold tells a) whe
 
 -- ---- sessions before their first turns
 
-place_by : {X : Type 0} (xs : List X) (x : X) (place : ℕ) (y : X) → slice_get (xs ++ x ∷ []) place ≡ Some y → (slice_get xs place ≡ Some y) ⊎ ((place ≡ length xs) × (y ≡ x))
+pub place_by : {X : Type 0} (xs : List X) (x : X) (place : ℕ) (y : X) → slice_get (xs ++ x ∷ []) place ≡ Some y → (slice_get xs place ≡ Some y) ⊎ ((place ≡ length xs) × (y ≡ x))
 place_by [] x zero y e = inr (refl, sym (same_Some x y e))
 place_by [] x (suc place) y e = absurd (cc)
 place_by (z ∷ zs) x zero y e = inl e

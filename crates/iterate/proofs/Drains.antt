@@ -1,14 +1,13 @@
 -- Iterations that leave off and take back their calls, as the drain of the machine does.
-use Rattle.std.specs.Prelude.{◌≡◌, ◌⊎◌, ℕ, zero, suc, ◌+◌, Bool, true, false, ◌==◌, if◌then◌else◌, Option, Some, None, List, [], ◌∷◌, ◌++◌, length, is_some, refl}
-use Rattle.std.proofs.Common.{sym, ◌∙◌, ap, subst, inl, inr, add-one, arith}
+use Rattle.std.specs.Prelude.{◌≡◌, ℕ, zero, suc, ◌+◌, Bool, true, false, ◌==◌, if◌then◌else◌, Option, Some, None, List, [], ◌∷◌, length, is_some, refl}
+use Rattle.std.proofs.Common.{sym, ◌∙◌, ap, subst, add-one}
 use Rattle.gx_base.specs.declared.acts.Step.{Step}
 use Rattle.gx_base.specs.Plans.{Operator}
 use Rattle.gx_base.specs.Replays.{put}
 use Rattle.gate_core.specs.Views.{undo_last}
 use Rattle.commit_book.specs.BookViews.{put_back}
 use Rattle.speculation.specs.Events.{Event, Turn, then_turn}
-use Rattle.speculation.specs.Events as event
-use Rattle.speculation.specs.Machines.{Machine, Place, Turned, place_of, settled, let_go, undone, undo_step, undo, turn_in, turn_at, turn}
+use Rattle.speculation.specs.Machines.{Machine, Place, Turned, place_of, settled, let_go, undo_step, undo, turn_in, turn_at, turn}
 use Rattle.speculation.specs.ScheduledRuns.{Run, then_turned, drain_step, drain_steps, drain_worker, drain}
 use Rattle.speculation.specs.Sessions.{Session, Phase, Idle, Running, Finished, Undoing, is_idle, ended, undone_to, last_step, steps_before, has_no_step}
 use Rattle.rooms.proofs.CallerLemmas.{put_same, put_itself}

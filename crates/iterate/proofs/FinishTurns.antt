@@ -24,13 +24,14 @@ use Rattle.rooms.specs.declared.values.Value.TheVariants.{Book}
 use Rattle.iterate.specs.declared.events.Event.{Event as CodeEvent}
 use Rattle.iterate.specs.declared.events.Event.TheVariants as events
 use Rattle.iterate.specs.declared.events.Stop.{Stop}
+use Rattle.iterate.specs.declared.events.Stop.TheVariants as stops
 use Rattle.iterate.specs.declared.session.Phase.{Phase as CodePhase}
 use Rattle.iterate.specs.declared.session.Phase.TheVariants as code
 use Rattle.iterate.specs.Places.{IsLogIn, IsFit}
 use Rattle.iterate.specs.RoomLists.{is_among, rooms_of}
 use Rattle.iterate.specs.SessionViews.{Rests, Core, SessionView, view_in}
 use Rattle.iterate.specs.SharedTurns.{Shared, cut_at, cut_commit, begun_commit, stays}
-use Rattle.iterate.specs.Turns.{TakesTurn, Answers, IsAfter, IsCause, limit_on}
+use Rattle.iterate.specs.Turns.{TakesTurn, Answers, IsAfter, IsCause, MayLose, limit_on}
 use Rattle.iterate.proofs.Standing.{base_place}
 use Rattle.iterate.proofs.Turning.{whole}
 use Rattle.iterate.proofs.BookTurns.{body_of, book_place, book_turn, book_visited, lost_turn}
@@ -178,12 +179,17 @@ module _ {T S St : Type 0} (op : Operator) (a b : RoomsView (Value T S)) (rest :
         (λ e. whole op a b finished over_view p q_over u events.Drop turns refl refl
         (sym (where_true (has_no_step c.log) (let_go p c.worker finished.at) (record { gates = p.gates; book = was; session = undoing finished.at }) e)) refl refl refl tt)
 
+    none_lost : (stop : Stop) (book : ℕ) → MayLose stop book None
+    none_lost stops.Spent book = refl
+    none_lost stops.Kept book = refl
+    none_lost stops.NoMemory book = λ room e. absurd (cc)
+
     pub stop_turn : (stop : Stop) → pushes ≡ [] → IsCause stop (limit_on op p c.worker) → TakesTurn op a b finished (view_in rest new phase) (Err stop)
     stop_turn stop none cause = give_turn (Err stop)
         (λ e. record {
           may = refl;
           cause = cause;
-          held = λ r e. absurd (cc);
+          held = none_lost stop a.book;
           place_is = (λ i. record { gates = p.gates; book = was; session = record undoing_view.at { outcome = record { steps = c.log; pushes = none i; withdrawn = [] } } })
               ∙ sym (unless_true (has_no_step c.log) (let_go p c.worker finished.at) (record { gates = p.gates; book = was; session = undone_to finished.at c.log }) e);
           opened_is = refl;
@@ -192,7 +198,7 @@ module _ {T S St : Type 0} (op : Operator) (a b : RoomsView (Value T S)) (rest :
         (λ e. record {
           may = refl;
           cause = cause;
-          held = λ r e. absurd (cc);
+          held = none_lost stop a.book;
           place_is = sym (where_true (has_no_step c.log) (let_go p c.worker finished.at) (record { gates = p.gates; book = was; session = undone_to finished.at c.log }) e);
           opened_is = refl;
           pushed_is = refl;

@@ -4,6 +4,7 @@ pub mod Visiting
 pub mod SoleTurns
 pub mod SessionLists
 pub mod Drains
+pub mod ToldTurns
 pub mod Schedules
 pub mod LoneRuns
 pub mod Turning

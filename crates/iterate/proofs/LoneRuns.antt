@@ -1,13 +1,12 @@
 -- The turns of worker 0 alone, one after another.
-use Rattle.std.specs.Prelude.{◌≡◌, ◌⊎◌, ℕ, zero, suc, ◌+◌, ◌≤◌, Bool, true, false, if◌then◌else◌, Option, Some, None, List, [], ◌∷◌, refl}
-use Rattle.std.proofs.Common.{sym, ◌∙◌, ap, subst, inl, inr, arith}
+use Rattle.std.specs.Prelude.{◌≡◌, ℕ, zero, suc, ◌+◌, Bool, true, false, if◌then◌else◌, Option, Some, None, refl}
+use Rattle.std.proofs.Common.{sym, ◌∙◌, ap, subst, arith}
 use Rattle.gx_base.specs.Plans.{Operator}
 use Rattle.speculation.specs.Events.{Event}
 use Rattle.speculation.specs.Limits.{Limit, limit_in, or_later, limit_of_alone}
 use Rattle.speculation.specs.Machines.{Machine, turn}
-use Rattle.speculation.specs.Premises.{AsksCall, AloneAsk}
+use Rattle.speculation.specs.Premises.{AloneAsk}
 use Rattle.speculation.specs.ScheduledRuns.{is_empty, alone}
-use Rattle.speculation.proofs.Putting.{no_bool}
 use Rattle.iterate.specs.declared.events.Stop.{Stop}
 use Rattle.iterate.specs.PlayedTurns.{IsTurn, IsStopped, IsLoneRun}
 use Rattle.iterate.specs.Plays.{stop_of}

@@ -35,7 +35,7 @@ use Rattle.iterate.proofs.Visiting.{SameGates, OrderedTold, carried, lost_gates,
 use Rattle.iterate.proofs.Turning.{turned, no_loss, some_number}
 use Rattle.iterate.proofs.LeftRooms.{among_both, below_end, below_front, not_among, rising_end, apart, before_is, on_from_is, part_in, steps_in_twice, steps_within}
 use Rattle.iterate.proofs.ReleaseSteps.{not_in_front, among_at}
-use Rattle.iterate.proofs.UndoTurns.{or_left, or_right}
+use Rattle.iterate.proofs.UndoTurns.{or_right}
 
 module _ {T S : Type 0} (op : Operator) (a mid b : RoomsView (Value T S)) (s t : SessionView) (front : List ℕ) (iter number : ℕ) (fit : IsFit op a s) (h : AreReleased a mid s.worker iter number front) (after : SameGates mid b)
     (its_iter : iter ≡ s.at.iter) (below : AreBelow a.book front) where

@@ -1,12 +1,12 @@
 -- The turns of a schedule, one after another.
-use Rattle.std.specs.Prelude.{◌≡◌, ◌⊎◌, ℕ, zero, suc, ◌+◌, ◌<◌, Bool, true, false, if◌then◌else◌, Option, Some, None, List, [], ◌∷◌, length, Result, Ok, Err, refl}
-use Rattle.std.proofs.Common.{sym, ◌∙◌, ap, subst, inl, inr, drop, get_or, arith, add-one, drop-cons}
+use Rattle.std.specs.Prelude.{◌≡◌, ◌⊎◌, ℕ, zero, suc, ◌<◌, Bool, true, false, if◌then◌else◌, Option, Some, None, List, [], ◌∷◌, length, refl}
+use Rattle.std.proofs.Common.{sym, ◌∙◌, ap, subst, inl, inr, get_or, arith}
 use Rattle.gx_base.specs.Plans.{Operator}
-use Rattle.speculation.specs.Events.{Event, Turn, then_turn}
+use Rattle.speculation.specs.Events.{then_turn}
 use Rattle.speculation.specs.Limits.{Limit, limit_in, or_later, limit_of_scheduled}
 use Rattle.speculation.specs.Limits as limit
-use Rattle.speculation.specs.Machines.{Machine, place_of, turn_at, turn}
-use Rattle.speculation.specs.Premises.{AsksCall, ScheduledAsk}
+use Rattle.speculation.specs.Machines.{place_of, turn_at}
+use Rattle.speculation.specs.Premises.{ScheduledAsk}
 use Rattle.speculation.specs.ScheduledRuns.{is_empty, Run, then_turned, scheduled, AllBelow}
 use Rattle.speculation.proofs.Putting.{no_bool}
 use Rattle.iterate.specs.declared.events.Stop.{Stop}

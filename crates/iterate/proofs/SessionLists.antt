@@ -1,17 +1,16 @@
 -- Lists of sessions, of which one takes a turn.
-use Rattle.std.specs.Prelude.{◌≡◌, ◌≢◌, ℕ, zero, suc, ◌<◌, Bool, true, false, ◌==◌, if◌then◌else◌, Option, Some, None, List, [], ◌∷◌, length, slice_get, slice_set, refl}
+use Rattle.std.specs.Prelude.{◌≡◌, ℕ, ◌<◌, Bool, true, false, ◌==◌, if◌then◌else◌, Some, List, [], ◌∷◌, length, slice_get, slice_set, refl}
 use Rattle.std.proofs.Common.{sym, ◌∙◌, ap, subst, arith}
 use Rattle.std.proofs.lemmas.Option.{same_Some}
 use Rattle.gx_base.specs.Plans.{Operator}
 use Rattle.gx_base.specs.Replays.{put}
-use Rattle.speculation.specs.Sessions.{Session}
 use Rattle.speculation.proofs.Putting.{no_bool, same_number, numbers_equal}
 use Rattle.rooms.specs.RoomsViews.{RoomsView, is_held}
 use Rattle.rooms.specs.declared.values.Value.{Value}
 use Rattle.rooms.proofs.CallerLemmas.{get_set, get_other, numbers_differ}
 use Rattle.iterate.specs.declared.session.Session.{Session as CodeSession}
 use Rattle.iterate.specs.PlayedTurns.{session_in, sessions_of, MayTurn, MayAllTurn}
-use Rattle.iterate.specs.SessionViews.{Rests, SessionView, view_of}
+use Rattle.iterate.specs.SessionViews.{Rests, view_of}
 use Rattle.iterate.proofs.SoleTurns.{free_of}
 
 turned_round : (a b : ℕ) (c : Bool) → (a == b) ≡ false → (b == a) ≡ c → (b == a) ≡ false

@@ -1,5 +1,5 @@
 -- A turn in rooms that one caller enters for all workers is that of the machine, and leaves the other sessions fit.
-use Rattle.std.specs.Prelude.{◌≡◌, ◌⊎◌, ℕ, ◌<◌, ◌≤◌, Bool, true, false, ◌==◌, if◌then◌else◌, Option, Some, None, List, [], ◌∷◌, ◌++◌, is_some, Result, Ok, Err, IfOk, refl}
+use Rattle.std.specs.Prelude.{◌≡◌, ◌⊎◌, ℕ, ◌<◌, ◌≤◌, Bool, true, false, ◌==◌, Option, Some, None, List, [], ◌∷◌, ◌++◌, is_some, Result, Ok, Err, IfOk, refl}
 use Rattle.std.proofs.Common.{sym, ◌∙◌, ap, subst, inl, inr, arith}
 use Rattle.std.proofs.lemmas.Bool.{cases_lt}
 use Rattle.gx_base.specs.declared.acts.Entry.{Entry}
@@ -12,15 +12,12 @@ use Rattle.gx_base.specs.Meanings.{IsCall}
 use Rattle.gx_base.specs.Plans.{Plan, Call, Push, Done, Operator}
 use Rattle.gx_base.specs.Replays.{put}
 use Rattle.gx_base.specs.RoomViews.{is_book}
-use Rattle.gate_core.specs.Views.{GateView, in_way}
-use Rattle.gate_core.specs.Entries.{Each, mades_of, is_of, entries_of}
+use Rattle.gate_core.specs.Views.{GateView}
 use Rattle.commit_book.specs.BookViews.{BookView}
-use Rattle.speculation.specs.Events.{Event}
-use Rattle.speculation.specs.Limits.{Limit}
-use Rattle.speculation.specs.Machines.{Machine, Place, Turned, place_of, settled, entry_of, answer, go, turn_in, turn_at, turn}
+use Rattle.speculation.specs.Machines.{Machine, Place, place_of, settled, answer, go, turn_in, turn_at}
 use Rattle.speculation.specs.Premises.{IsNextCall, AsksCall}
 use Rattle.speculation.specs.Sessions.{Session, Phase, Idle, Running, Finished, Undoing, ahead}
-use Rattle.speculation.proofs.Putting.{no_bool, same_number, numbers_equal}
+use Rattle.speculation.proofs.Putting.{no_bool, same_number}
 use Rattle.rooms.specs.RoomsViews.{RoomsView, is_held}
 use Rattle.rooms.specs.HandedOut.{HasRisen}
 use Rattle.rooms.specs.Values.{tells}
@@ -29,13 +26,12 @@ use Rattle.rooms.specs.declared.values.Value.{Value}
 use Rattle.rooms.specs.declared.values.Value.TheVariants.{Object, Book}
 use Rattle.iterate.specs.declared.events.Event.{Event as CodeEvent}
 use Rattle.iterate.specs.declared.events.Stop.{Stop}
-use Rattle.iterate.specs.Places.{IsLogIn, IsLogOf, IsFit, IsFitIn, no_gate, gate_of, book_of, IfTold, IsBookIn, StandsOn}
-use Rattle.iterate.specs.PlayedTurns.{machine_of, MayTurn, TellsCall, IsTurn, TurnAnswers}
+use Rattle.iterate.specs.Places.{IsLogIn, IsFit, IsFitIn, no_gate, gate_of, book_of, IfTold, IsBookIn, StandsOn}
+use Rattle.iterate.specs.PlayedTurns.{machine_of, MayTurn, TellsCall, TurnAnswers}
 use Rattle.iterate.specs.Plays.{gate_in, book_in}
 use Rattle.iterate.specs.SessionViews.{OpenCommit, SessionView}
-use Rattle.iterate.specs.Turns.{event_of, IsLostIn, TellsRight, limit_on, GoesWell, IsAfter, may_stop, may_stop_at, IsCause, HasStopped, Answers, OthersStay, AreSameRooms, HasTurned}
+use Rattle.iterate.specs.Turns.{event_of, IsLostIn, may_stop_at, Answers, OthersStay, AreSameRooms, HasTurned}
 use Rattle.iterate.proofs.Logs.{log_shown, log_hidden}
-use Rattle.iterate.specs.SharedTurns.{whole_turn, shared_in, stopped_at}
 
 -- ---- what is asked next
 
@@ -149,13 +145,15 @@ module _ {T S : Type 0} where
       answered : (result : Result CodeEvent Stop) (p q : Place) → StandsOn b t q → p ≡ place_of M worker → t.opened ≡ None → IfOk result (λ event. TellsCall (event_of event)) → AnswersClosed p q result
           → TurnAnswers op M (machine_of b (put sessions worker t.at)) worker result
       answered (Ok event) p q stands is closed call h =
-          let k : AnswersClosed (place_of M worker) q (Ok event) = subst (λ x. AnswersClosed x q (Ok event)) is h in
-          record {
-            event_is = k.0.event_is;
-            machine_is = sym (settles_there b told_b q t worker sessions M stands closed refl) ∙ ap (settled M worker) k.0.place_is;
-            unlimited = k.2;
-            asks = asks (place_of M worker) worker op (subst TellsCall k.0.event_is call);
-          }
+          let k : AnswersClosed (place_of M worker) q (Ok event) = subst (λ x. AnswersClosed x q (Ok event)) is h in (
+            record {
+              event_is = k.0.event_is;
+              machine_is = sym (settles_there b told_b q t worker sessions M stands closed refl) ∙ ap (settled M worker) k.0.place_is;
+              unlimited = k.2;
+              asks = asks (place_of M worker) worker op (subst TellsCall k.0.event_is call);
+            },
+            k.1,
+          )
       answered (Err stop) p q stands is closed call h =
           let k : AnswersClosed (place_of M worker) q (Err stop) = subst (λ x. AnswersClosed x q (Err stop)) is h in
           record { cause = k.cause; may = ap (λ (x : Session). may_stop_at x.phase) here ∙ k.may }

@@ -1,12 +1,12 @@
 -- Whole runs, from their parts.
-use Rattle.std.specs.Prelude.{◌≡◌, ◌⊎◌, ℕ, zero, suc, ◌+◌, Bool, true, false, if◌then◌else◌, Option, Some, None, List, [], ◌∷◌, Result, Err, refl}
+use Rattle.std.specs.Prelude.{◌≡◌, ◌⊎◌, ℕ, zero, suc, ◌+◌, Bool, true, false, if◌then◌else◌, Option, Some, None, List, Result, Err, refl}
 use Rattle.std.proofs.Common.{sym, ◌∙◌, ap, subst, inl, inr, arith}
 use Rattle.std.proofs.lemmas.Option.{same_Some}
 use Rattle.gx_base.specs.Plans.{Operator}
 use Rattle.speculation.specs.Limits.{Limit, limit_in, or_later, limit_of_scheduled, limit_of_alone, limit_of_played}
 use Rattle.speculation.specs.Limits as limit
 use Rattle.speculation.specs.Machines.{Machine, turn}
-use Rattle.speculation.specs.Premises.{ScheduledAsk, AloneAsk, AsksCalls}
+use Rattle.speculation.specs.Premises.{ScheduledAsk, AloneAsk}
 use Rattle.speculation.specs.ScheduledRuns.{is_empty, Run, begun, scheduled, drain, alone, drained, played}
 use Rattle.iterate.specs.declared.events.Stop.{Stop}
 use Rattle.iterate.specs.declared.events.Stop.TheVariants as stops

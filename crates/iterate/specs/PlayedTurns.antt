@@ -1,5 +1,5 @@
 -- Turns in rooms that one caller enters for all workers, on the machine that the rooms and the sessions are.
-use Rattle.std.specs.Prelude.{◌≡◌, ℕ, ◌<◌, Bool, true, Option, Some, None, List, [], slice_get, Result, Ok, Err, ⊤}
+use Rattle.std.specs.Prelude.{◌≡◌, ◌⊎◌, ℕ, true, false, Option, Some, None, List, [], ◌∷◌, ◌++◌, slice_get, Result, Ok, Err, ⊤}
 use Rattle.gate_core.specs.Views.{IsLawfulGate}
 use Rattle.commit_book.specs.LawfulBooks.{IsLawfulBook}
 use Rattle.gx_base.specs.Meanings.{IsCall}
@@ -22,7 +22,7 @@ use Rattle.iterate.specs.EventViews.{turns_of}
 use Rattle.iterate.specs.Places.{IsFit}
 use Rattle.iterate.specs.Plays.{gate_in, book_in}
 use Rattle.iterate.specs.SessionViews.{Rests, SessionView, view_of, begun_view}
-use Rattle.iterate.specs.Turns.{event_of, IsCause, may_stop_at}
+use Rattle.iterate.specs.Turns.{event_of, is_conflict, TellsRight, IsCause, may_stop_at}
 
 -- ---- machines
 
@@ -89,7 +89,7 @@ pub record IsStopped (op : Operator) (before : Machine) (worker : ℕ) (stop : S
   pub may : may_stop_at (before.sessions worker).phase ≡ true
 
 abbrev pub TurnAnswers : Operator → (before after : Machine) → (worker : ℕ) → Result CodeEvent Stop → Type 0
-TurnAnswers op before after worker (Ok event) = IsTurn op before after worker (event_of event)
+TurnAnswers op before after worker (Ok event) = IsTurn op before after worker (event_of event) × TellsRight (place_of before worker) worker event
 TurnAnswers op before after worker (Err stop) = IsStopped op before worker stop
 
 -- the turn, which the trace has then
@@ -126,14 +126,19 @@ left_off Undoing = Undoing
 abbrev pub with_left_off : Session → Session
 with_left_off s = record s { phase = left_off s.phase }
 
--- the turns with one more, but for one that was idle
+-- the turns with one more, where that is an undo
 abbrev pub with_undo : List Turn → ℕ → Event → List Turn
-with_undo turns worker (event.Take item) = then_turn turns worker (event.Take item)
-with_undo turns worker event.Idle = turns
-with_undo turns worker (event.Call room call reply) = then_turn turns worker (event.Call room call reply)
-with_undo turns worker (event.Conflict room held call would) = then_turn turns worker (event.Conflict room held call would)
-with_undo turns worker (event.Commit number) = then_turn turns worker (event.Commit number)
-with_undo turns worker event.Wait = then_turn turns worker event.Wait
-with_undo turns worker event.Drop = then_turn turns worker event.Drop
 with_undo turns worker (event.Undo room call) = then_turn turns worker (event.Undo room call)
-with_undo turns worker event.Busy = then_turn turns worker event.Busy
+with_undo turns worker _ = turns
+
+-- ---- conflicts
+
+-- the trace has one more turn, which tells right at the machine before it
+pub record IsToldTurn (before : Machine) (old new : List CodeTurn) : Type 0 where
+  pub turn : CodeTurn
+  pub trace_is : new ≡ old ++ turn ∷ []
+  pub right : TellsRight (place_of before turn.worker) turn.worker turn.event
+
+-- each turn is an earlier one, or else no conflict
+abbrev pub AddsNoConflict : List CodeTurn → List CodeTurn → Type 0
+AddsNoConflict old new = (k : ℕ) (t : CodeTurn) → slice_get new k ≡ Some t → (slice_get old k ≡ Some t) ⊎ (is_conflict (event_of t.event) ≡ false)

@@ -1,20 +1,23 @@
 -- Whole runs: what `play` asks of its rooms, and what it answers.
-use Rattle.std.specs.Prelude.{◌≡◌, ℕ, ◌+◌, ◌<◌, ◌≤◌, ◌^◌, true, Option, Some, None, List, [], Result, Err}
+use Rattle.std.specs.Prelude.{◌≡◌, ℕ, ◌+◌, ◌<◌, ◌≤◌, ◌^◌, true, Option, Some, None, List, [], take, slice_get}
 use Rattle.gate_core.specs.Views.{GateView}
 use Rattle.gx_base.specs.Plans.{Operator}
 use Rattle.commit_book.specs.BookViews.{BookView, new_book}
 use Rattle.speculation.specs.Events.{Turn}
 use Rattle.speculation.specs.Limits.{Limit, limit_of_played}
 use Rattle.speculation.specs.Limits as limit
-use Rattle.speculation.specs.Machines.{Machine}
+use Rattle.speculation.specs.Machines.{Machine, place_of}
 use Rattle.speculation.specs.RunResults.{IsSerialInTheEnd}
-use Rattle.speculation.specs.ScheduledRuns.{is_empty, Run, played}
+use Rattle.speculation.specs.ScheduledRuns.{is_empty, scheduled, played}
+use Rattle.speculation.specs.ScheduledRuns.{begun as no_turn}
 use Rattle.rooms.specs.declared.values.Value.{Value}
 use Rattle.rooms.specs.declared.values.Value.TheVariants.{Object, Book}
 use Rattle.iterate.specs.Places.{no_gate, gate_of, book_of}
 use Rattle.iterate.specs.SessionViews.{begun_view}
+use Rattle.iterate.specs.Turns.{TellsRight}
 use Rattle.iterate.specs.declared.events.Stop.{Stop}
 use Rattle.iterate.specs.declared.events.Stop.TheVariants as stops
+use Rattle.iterate.specs.declared.events.Turn.{Turn as CodeTurn}
 
 -- ---- the machine at the start
 
@@ -67,6 +70,10 @@ pub record IsPlayed {T S : Type 0} (op : Operator) (begun : Machine) (workers : 
   pub no_more : (room : ℕ) → op.rooms < room → values room ≡ None
   pub no_others : (room : ℕ) → op.rooms ≤ room → (played op begun workers schedule turns).machine.gates room ≡ no_gate
   pub serial : IsSerialInTheEnd op begun (played op begun workers schedule turns).machine
+
+-- each conflict in the trace tells the state functions right, at the machine of the scheduled run before its turn. So many turns lead there
+abbrev pub ConflictsTellRight : Operator → Machine → List ℕ → List CodeTurn → Type 0
+ConflictsTellRight op begun schedule trace = (k : ℕ) (t : CodeTurn) → slice_get trace k ≡ Some t → TellsRight (place_of (scheduled op (no_turn begun) (take k schedule)).machine t.worker) t.worker t.event
 
 abbrev pub stop_of : Limit → Stop
 stop_of limit.Spent = stops.Spent

@@ -106,11 +106,16 @@ IsCause stops.Spent passed = passed ≡ Some limit.Spent
 IsCause stops.Kept passed = passed ≡ Some limit.Kept
 IsCause stops.NoMemory passed = ⊤
 
+-- a limit is told in a turn that found no room held. Want of memory is told also where the book was, into which the item was to be put back
+abbrev pub MayLose : Stop → (book : ℕ) → Option ℕ → Type 0
+MayLose stops.Spent book lost = lost ≡ None
+MayLose stops.Kept book lost = lost ≡ None
+MayLose stops.NoMemory book lost = (room : ℕ) → lost ≡ Some room → room ≡ book
+
 pub record HasStopped (op : Operator) (book : ℕ) (before after : SessionView) (p q : Place) (lost : Option ℕ) (stop : Stop) : Type 0 where
   pub may : may_stop before before.opened ≡ true
   pub cause : IsCause stop (limit_on op p before.worker)
-  -- at most the book was held, into which the item was to be put back
-  pub held : (room : ℕ) → lost ≡ Some room → room ≡ book
+  pub held : MayLose stop book lost
   pub place_is : q ≡ stopped_at p before.worker before.at.phase lost
   pub opened_is : after.opened ≡ None
   pub pushed_is : after.pushed ≡ before.pushed

@@ -1,10 +1,10 @@
-ghost use Rattle.std.specs.Prelude.{◌≡◌, ◌<◌, ℕ, None, false, length, IfErr, OnOk};
+ghost use Rattle.std.specs.Prelude.{◌≡◌, ◌<◌, ◌≤◌, ℕ, None, false, length, IfErr, OnOk};
 ghost use Rattle.commit_book.specs.SerialRuns.{operator_of};
 ghost use Rattle.gx_base.specs.Replays.{put};
 ghost use Rattle.speculation.specs.ScheduledRuns.{drain as drained, drain_step as step_drained, drain_worker as worker_drained};
 ghost use Rattle.rooms.specs.Values.{tells};
 ghost use Rattle.rooms.specs.Visits.{view_of as rooms_view};
-ghost use Rattle.iterate.specs.PlayedTurns.{sessions_of, run_of, MayAllTurn, left_off, with_left_off, with_undo};
+ghost use Rattle.iterate.specs.PlayedTurns.{sessions_of, run_of, MayAllTurn, AddsNoConflict, left_off, with_left_off, with_undo};
 ghost use Rattle.iterate.specs.EventViews.{turns_of};
 ghost use Rattle.iterate.specs.Turns.{event_of};
 ghost use Rattle.iterate.specs.declared.events.Stop.TheVariants as stops;
@@ -17,21 +17,15 @@ use gate_core::Screen;
 use gx_base::SeqType;
 use rooms::{Value, VecRooms};
 
-// The trace with one more turn, but for one that was idle.
+// The trace with one more turn, where that is an undo.
 fn note_undo(trace: &mut Vec<Turn>, worker: u32, event: Event) -> Result<(), Stop>
     ensures ok { OnOk result (turns_of trace.new.items ≡ with_undo (turns_of trace.old.items) worker (event_of event)) }
+    ensures told { OnOk result (AddsNoConflict trace.old.items trace.new.items) }
     ensures err { IfErr result (λ stop. stop ≡ stops.NoMemory) }
 {
     match event {
-        Event::Idle => Ok(()),
-        Event::Take { .. }
-        | Event::Call { .. }
-        | Event::Conflict { .. }
-        | Event::Undo { .. }
-        | Event::Commit { .. }
-        | Event::Wait
-        | Event::Drop
-        | Event::Busy => note(trace, worker, event),
+        Event::Undo { .. } => note(trace, worker, event),
+        _ => Ok(()),
     }
 }
 
@@ -48,6 +42,7 @@ fn drain_step<O: Operator, T: SeqType, S: Screen<T>>(
     requires left_off { let phase = (sessions_of (O.rest op.now) sessions.old worker).phase in left_off phase ≡ phase }
     requires fit { MayAllTurn (operator_of O.Operator op.now) (rooms_view tells rooms.old) (O.rest op.now) sessions.old }
     ensures run { OnOk result (run_of (rooms_view tells rooms.new) (sessions_of (O.rest op.now) sessions.new) trace.new.items ≡ step_drained (run_of (rooms_view tells rooms.old) (sessions_of (O.rest op.now) sessions.old) trace.old.items) worker) }
+    ensures told { OnOk result (AddsNoConflict trace.old.items trace.new.items) }
     ensures left_off { OnOk result (let phase = (sessions_of (O.rest op.now) sessions.new worker).phase in left_off phase ≡ phase) }
     ensures err { IfErr result (λ stop. stop ≡ stops.NoMemory) }
     ensures fit { MayAllTurn (operator_of O.Operator op.now) (rooms_view tells rooms.new) (O.rest op.now) sessions.new }
@@ -87,6 +82,7 @@ fn drain_worker<O: Operator, T: SeqType, S: Screen<T>>(
     requires worker { worker < length sessions.old }
     requires fit { MayAllTurn (operator_of O.Operator op.now) (rooms_view tells rooms.old) (O.rest op.now) sessions.old }
     ensures run { OnOk result (run_of (rooms_view tells rooms.new) (sessions_of (O.rest op.now) sessions.new) trace.new.items ≡ worker_drained (run_of (rooms_view tells rooms.old) (sessions_of (O.rest op.now) sessions.old) trace.old.items) worker) }
+    ensures told { OnOk result (AddsNoConflict trace.old.items trace.new.items) }
     ensures err { IfErr result (λ stop. stop ≡ stops.NoMemory) }
     ensures fit { MayAllTurn (operator_of O.Operator op.now) (rooms_view tells rooms.new) (O.rest op.now) sessions.new }
 {
@@ -95,6 +91,49 @@ fn drain_worker<O: Operator, T: SeqType, S: Screen<T>>(
         drain_step(rooms, op, sessions, worker, trace)?;
     }
     drain_step(rooms, op, sessions, worker, trace)
+}
+
+// After the iterations of so many workers that of the next one takes back its calls.
+fn drain_next<O: Operator, T: SeqType, S: Screen<T>>(
+    rooms: &mut VecRooms<Value<T, S>>,
+    op: &O,
+    sessions: &mut [Session<O>],
+    done: u32,
+    _workers: u32,
+    trace: &mut Vec<Turn>,
+) -> Result<(), Stop>
+    requires unordered { O.is_ordered op.now ≡ false }
+    requires more { done < _workers }
+    requires workers { _workers ≤ length sessions.old }
+    requires fit { MayAllTurn (operator_of O.Operator op.now) (rooms_view tells rooms.old) (O.rest op.now) sessions.old }
+    ensures run { OnOk result (run_of (rooms_view tells rooms.new) (sessions_of (O.rest op.now) sessions.new) trace.new.items ≡ worker_drained (run_of (rooms_view tells rooms.old) (sessions_of (O.rest op.now) sessions.old) trace.old.items) done) }
+    ensures told { OnOk result (AddsNoConflict trace.old.items trace.new.items) }
+    ensures err { IfErr result (λ stop. stop ≡ stops.NoMemory) }
+    ensures fit { MayAllTurn (operator_of O.Operator op.now) (rooms_view tells rooms.new) (O.rest op.now) sessions.new }
+{
+    drain_worker(rooms, op, sessions, done, trace)
+}
+
+// By rising worker, each of the first workers' iterations that isn't over takes back its calls, the last one first, and its item is put back.
+fn drain_first<O: Operator, T: SeqType, S: Screen<T>>(
+    rooms: &mut VecRooms<Value<T, S>>,
+    op: &O,
+    sessions: &mut [Session<O>],
+    workers: u32,
+    trace: &mut Vec<Turn>,
+) -> Result<(), Stop>
+    requires unordered { O.is_ordered op.now ≡ false }
+    requires workers { workers ≤ length sessions.old }
+    requires fit { MayAllTurn (operator_of O.Operator op.now) (rooms_view tells rooms.old) (O.rest op.now) sessions.old }
+    ensures run { OnOk result (run_of (rooms_view tells rooms.new) (sessions_of (O.rest op.now) sessions.new) trace.new.items ≡ drained (run_of (rooms_view tells rooms.old) (sessions_of (O.rest op.now) sessions.old) trace.old.items) workers) }
+    ensures told { OnOk result (AddsNoConflict trace.old.items trace.new.items) }
+    ensures err { IfErr result (λ stop. stop ≡ stops.NoMemory) }
+    ensures fit { MayAllTurn (operator_of O.Operator op.now) (rooms_view tells rooms.new) (O.rest op.now) sessions.new }
+{
+    for worker in 0..workers {
+        drain_next(rooms, op, sessions, worker, workers, trace)?;
+    }
+    Ok(())
 }
 
 /// By rising worker, each iteration that isn't over takes back its calls, the last one first, and its item is put back.
@@ -109,11 +148,9 @@ pub fn drain<O: Operator, T: SeqType, S: Screen<T>>(
     requires workers { workers ≡ length sessions.old }
     requires fit { MayAllTurn (operator_of O.Operator op.now) (rooms_view tells rooms.old) (O.rest op.now) sessions.old }
     ensures run { OnOk result (run_of (rooms_view tells rooms.new) (sessions_of (O.rest op.now) sessions.new) trace.new.items ≡ drained (run_of (rooms_view tells rooms.old) (sessions_of (O.rest op.now) sessions.old) trace.old.items) workers) }
+    ensures told { OnOk result (AddsNoConflict trace.old.items trace.new.items) }
     ensures err { IfErr result (λ stop. stop ≡ stops.NoMemory) }
     ensures fit { MayAllTurn (operator_of O.Operator op.now) (rooms_view tells rooms.new) (O.rest op.now) sessions.new }
 {
-    for worker in 0..workers {
-        drain_worker(rooms, op, sessions, worker, trace)?;
-    }
-    Ok(())
+    drain_first(rooms, op, sessions, workers, trace)
 }

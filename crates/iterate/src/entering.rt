@@ -44,6 +44,12 @@ pub fn leave_gate<R: Rooms<Value<T, S>>, T: SeqType, S: Screen<T>>(
     rooms.leave(room, Value::Object(gate));
 }
 
+fn book_room<R: Rooms<Value<T, S>>, T: SeqType, S: Screen<T>>(rooms: &R) -> Room
+    ensures { result ≡ (R.view rooms.now).book }
+{
+    rooms.book()
+}
+
 /// The book, unless another caller holds its room.
 pub fn enter_book<R: Rooms<Value<T, S>>, T: SeqType, S: Screen<T>>(rooms: &mut R) -> Option<Book>
     requires free { is_held (R.view rooms.old) (R.view rooms.old).book ≡ false }
@@ -52,7 +58,7 @@ pub fn enter_book<R: Rooms<Value<T, S>>, T: SeqType, S: Screen<T>>(rooms: &mut R
     ensures none { IfNone result (IsLost (R.view rooms.old) (R.view rooms.new) (R.view rooms.old).book) }
     ensures loan { R.loan rooms.new ≡ R.loan rooms.old }
 {
-    let room = rooms.book();
+    let room = book_room(rooms);
     match rooms.try_enter(room) {
         Some(Value::Book(book)) => Some(book),
         Some(Value::Object(_)) => None,
@@ -66,6 +72,6 @@ pub fn leave_book<R: Rooms<Value<T, S>>, T: SeqType, S: Screen<T>>(rooms: &mut R
     ensures view { R.view rooms.new ≡ left tells (R.view rooms.old) (R.view rooms.old).book (values.Book book) }
     ensures loan { R.loan rooms.new ≡ R.loan rooms.old }
 {
-    let home = rooms.book();
+    let home = book_room(rooms);
     rooms.leave(home, Value::Book(book));
 }

@@ -8,7 +8,7 @@ ghost use Rattle.rooms.specs.Visits.{AreTold, view_of};
 ghost use Rattle.rooms.specs.declared.values.Value.{Value};
 ghost use Rattle.iterate.specs.EventViews.{turns_of};
 ghost use Rattle.iterate.specs.PlayedTurns.{machine_of, sessions_of, run_of, AreBegun, IsLawfulValue, IsPlayedRun, MayAllTurn};
-ghost use Rattle.iterate.specs.Plays.{AreNewFor, IsPlayed, PassesFirst, begun_machine, stop_of};
+ghost use Rattle.iterate.specs.Plays.{AreNewFor, ConflictsTellRight, IsPlayed, PassesFirst, begun_machine, stop_of};
 ghost use Rattle.iterate.specs.declared.events.Stop.TheVariants as stops;
 
 use crate::draining::drain;
@@ -91,6 +91,7 @@ fn play_on<O: Operator, T: SeqType, S: Screen<T>>(
     requires trace { trace.old.items ≡ [] }
     requires fit { MayAllTurn (operator_of O.Operator op.now) (view_of tells rooms.old) (O.rest op.now) sessions.old }
     ensures run { OnOk result (IsPlayedRun (operator_of O.Operator op.now) (machine_of (view_of tells rooms.old) (sessions_of (O.rest op.now) sessions.old)) workers schedule.now (run_of (view_of tells rooms.new) (sessions_of (O.rest op.now) sessions.new) trace.new.items)) }
+    ensures tells_right { OnOk result (ConflictsTellRight (operator_of O.Operator op.now) (machine_of (view_of tells rooms.old) (sessions_of (O.rest op.now) sessions.old)) schedule.now trace.new.items) }
     ensures stopped { (limit : Limit) → result ≡ Err (stop_of limit) → PassesFirst (operator_of O.Operator op.now) (machine_of (view_of tells rooms.old) (sessions_of (O.rest op.now) sessions.old)) workers schedule.now limit }
     ensures free { OnOk result ((room : ℕ) → is_held (view_of tells rooms.new) room ≡ false) }
     ensures told { OnOk result (AreTold tells (view_of tells rooms.new)) }
@@ -118,6 +119,7 @@ pub fn play<O: Operator, T: SeqType, S: Screen<T>>(
     requires workers { 1 ≤ workers }
     requires schedule { AllBelow schedule.now workers }
     ensures played { IfOk result (λ played. IsPlayed (operator_of O.Operator op.now) (begun_machine (O.room_count op.now) (view_of tells rooms).told) workers schedule.now (turns_of played.trace.items) (slice_get played.values.items)) }
+    ensures told { IfOk result (λ played. ConflictsTellRight (operator_of O.Operator op.now) (begun_machine (O.room_count op.now) (view_of tells rooms).told) schedule.now played.trace.items) }
     ensures stopped { (limit : Limit) → result ≡ Err (stop_of limit) → PassesFirst (operator_of O.Operator op.now) (begun_machine (O.room_count op.now) (view_of tells rooms).told) workers schedule.now limit }
     ensures limited { (limit : Limit) → PassesFirst (operator_of O.Operator op.now) (begun_machine (O.room_count op.now) (view_of tells rooms).told) workers schedule.now limit → (result ≡ Err (stop_of limit)) ⊎ (result ≡ Err stops.NoMemory) }
 {

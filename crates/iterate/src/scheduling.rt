@@ -1,12 +1,12 @@
-ghost use Rattle.std.specs.Prelude.{◌≡◌, ◌⊎◌, ◌<◌, ℕ, None, Some, Err, false, length, IfErr, OnOk};
+ghost use Rattle.std.specs.Prelude.{◌≡◌, ◌⊎◌, ◌<◌, ℕ, [], None, Some, Err, false, length, IfErr, OnOk};
 ghost use Rattle.commit_book.specs.SerialRuns.{operator_of};
 ghost use Rattle.speculation.specs.Limits.{Limit, limit_of_scheduled};
 ghost use Rattle.speculation.specs.Premises.{ScheduledAsk};
 ghost use Rattle.speculation.specs.ScheduledRuns.{AllBelow, scheduled};
 ghost use Rattle.rooms.specs.Values.{tells};
 ghost use Rattle.rooms.specs.Visits.{view_of as rooms_view};
-ghost use Rattle.iterate.specs.PlayedTurns.{machine_of, sessions_of, run_of, MayAllTurn, IsTracedTurn, IsStopped};
-ghost use Rattle.iterate.specs.Plays.{stop_of};
+ghost use Rattle.iterate.specs.PlayedTurns.{machine_of, sessions_of, run_of, MayAllTurn, IsTracedTurn, IsToldTurn, IsStopped};
+ghost use Rattle.iterate.specs.Plays.{ConflictsTellRight, stop_of};
 ghost use Rattle.iterate.specs.declared.events.Stop.TheVariants as stops;
 
 use crate::events::{Stop, Turn};
@@ -29,6 +29,7 @@ fn traced_turn<O: Operator, T: SeqType, S: Screen<T>>(
     requires worker { worker < length sessions.old }
     requires fit { MayAllTurn (operator_of O.Operator op.now) (rooms_view tells rooms.old) (O.rest op.now) sessions.old }
     ensures turned { OnOk result (IsTracedTurn (operator_of O.Operator op.now) (run_of (rooms_view tells rooms.old) (sessions_of (O.rest op.now) sessions.old) trace.old.items) (run_of (rooms_view tells rooms.new) (sessions_of (O.rest op.now) sessions.new) trace.new.items) worker) }
+    ensures told { OnOk result (IsToldTurn (machine_of (rooms_view tells rooms.old) (sessions_of (O.rest op.now) sessions.old)) trace.old.items trace.new.items) }
     ensures stopped { IfErr result (λ stop. (stop ≡ stops.NoMemory) ⊎ IsStopped (operator_of O.Operator op.now) (machine_of (rooms_view tells rooms.old) (sessions_of (O.rest op.now) sessions.old)) worker stop) }
     ensures fit { MayAllTurn (operator_of O.Operator op.now) (rooms_view tells rooms.new) (O.rest op.now) sessions.new }
 {
@@ -48,10 +49,12 @@ pub fn run_schedule<O: Operator, T: SeqType, S: Screen<T>>(
     requires unordered { O.is_ordered op.now ≡ false }
     requires workers { AllBelow schedule.now (length sessions.old) }
     requires some { 0 < length sessions.old }
+    requires trace { trace.old.items ≡ [] }
     requires fit { MayAllTurn (operator_of O.Operator op.now) (rooms_view tells rooms.old) (O.rest op.now) sessions.old }
     ensures run { OnOk result (run_of (rooms_view tells rooms.new) (sessions_of (O.rest op.now) sessions.new) trace.new.items ≡ scheduled (operator_of O.Operator op.now) (run_of (rooms_view tells rooms.old) (sessions_of (O.rest op.now) sessions.old) trace.old.items) schedule.now) }
     ensures unlimited { OnOk result (limit_of_scheduled (operator_of O.Operator op.now) (run_of (rooms_view tells rooms.old) (sessions_of (O.rest op.now) sessions.old) trace.old.items) schedule.now ≡ None) }
     ensures asks { OnOk result (ScheduledAsk (operator_of O.Operator op.now) (run_of (rooms_view tells rooms.old) (sessions_of (O.rest op.now) sessions.old) trace.old.items) schedule.now) }
+    ensures told { OnOk result (ConflictsTellRight (operator_of O.Operator op.now) (machine_of (rooms_view tells rooms.old) (sessions_of (O.rest op.now) sessions.old)) schedule.now trace.new.items) }
     ensures limited { (limit : Limit) → result ≡ Err (stop_of limit) → limit_of_scheduled (operator_of O.Operator op.now) (run_of (rooms_view tells rooms.old) (sessions_of (O.rest op.now) sessions.old) trace.old.items) schedule.now ≡ Some limit }
     ensures fit { MayAllTurn (operator_of O.Operator op.now) (rooms_view tells rooms.new) (O.rest op.now) sessions.new }
 {

@@ -1,4 +1,4 @@
-ghost use Rattle.std.specs.Prelude.{◌≡◌, ◌<◌, ℕ, None, false, length, slice_get, IfOk, IfErr, OnOk};
+ghost use Rattle.std.specs.Prelude.{◌≡◌, ◌<◌, ◌++◌, ◌∷◌, [], ℕ, None, false, length, slice_get, IfOk, IfErr, OnOk};
 ghost use Rattle.commit_book.specs.SerialRuns.{operator_of};
 ghost use Rattle.gx_base.specs.Meanings.{IsCall};
 ghost use Rattle.speculation.specs.Events.{then_turn};
@@ -44,6 +44,7 @@ fn has_nothing_ready<T: SeqType, S: Screen<T>>(value: &Value<T, S>) -> bool
 /// The trace with one more turn.
 pub fn note(trace: &mut Vec<Turn>, worker: u32, event: Event) -> Result<(), Stop>
     ensures ok { OnOk result (turns_of trace.new.items ≡ then_turn (turns_of trace.old.items) worker (event_of event)) }
+    ensures added { OnOk result (trace.new.items ≡ trace.old.items ++ record { number = length trace.old.items; worker = worker; event = event } ∷ []) }
     ensures err { IfErr result (λ stop. stop ≡ stops.NoMemory) }
 {
     let number = trace.len() as u64;

@@ -1,5 +1,5 @@
 -- What a caller of rooms may rely on, and what the rooms ask of it.
-use Rattle.std.specs.Prelude.{◌≡◌, ◌⊎◌, ℕ, ◌+◌, ◌<◌, ◌≤◌, min, Bool, true, false, ◌==◌, if◌then◌else◌, Option, Some, None, List, length, ⊤}
+use Rattle.std.specs.Prelude.{◌≡◌, ◌⊎◌, ℕ, ◌+◌, ◌<◌, ◌≤◌, Bool, true, false, ◌==◌, if◌then◌else◌, Option, Some, None, List, length, ⊤}
 use Rattle.gx_base.specs.Outcomes.{WholeCommit}
 use Rattle.gx_base.specs.Replays.{put}
 use Rattle.gx_base.specs.RoomViews.{RoomView, Origin, OfGate, OfBook, is_book}
@@ -36,7 +36,7 @@ pub record IsHandedOut {V : Type 0} (tells : V → RoomView) (view : RoomsView V
 
 -- a count rose: at the last value of its type it stays
 abbrev pub HasRisen : ℕ → ℕ → Type 0
-HasRisen before now = min (before + 1) 18446744073709551615 ≤ now
+HasRisen before now = (before < now) ⊎ ((before ≡ 18446744073709551615) × (now ≡ 18446744073709551615))
 
 -- another caller held the room: its count of lost takes rose, and nothing else changed
 pub record IsLost {V : Type 0} (before after : RoomsView V) (room : ℕ) : Type 0 where

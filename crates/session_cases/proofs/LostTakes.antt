@@ -1,6 +1,7 @@
 -- A take that the list says is lost.
-use Rattle.std.specs.Prelude.{◌≡◌, ℕ, ◌+◌, ◌<◌, ◌≤◌, min, Bool, true, false, ◌==◌, if◌then◌else◌, Option, Some, None, IfNone, List, length, slice_index_or, slice_set, refl}
-use Rattle.std.proofs.Common.{sym, ap, subst, arith}
+use Rattle.std.specs.Prelude.{◌≡◌, ◌⊎◌, ℕ, ◌+◌, ◌<◌, ◌≤◌, min, Bool, true, false, ◌==◌, if◌then◌else◌, Option, Some, None, IfNone, List, length, slice_index_or, slice_set, refl}
+use Rattle.std.proofs.Common.{sym, ap, subst, inl, inr, arith}
+use Rattle.std.proofs.lemmas.Bool.{cases_lt}
 use Rattle.std.proofs.lemmas.List.{get_or-set_same, get_or-set_other}
 use Rattle.std.proofs.lemmas.Option.{slice_get_read, get_or_from_slice_get}
 use Rattle.std.specs.Cmp.{unsigned_Decides}
@@ -27,15 +28,22 @@ module _ (lost : List ℕ) (room count : ℕ) (inside : room < length lost) wher
     same = λ i. record (view_of tells visits) { lost = λ number. counts_by number (room == number) refl i };
   }
 
+rises : (was count : ℕ) → was ≤ 18446744073709551615 → count ≡ min (was + 1) 18446744073709551615 → HasRisen was count
+rises was count small is = by (cases_lt was 18446744073709551615)
+  where
+    by : (was < 18446744073709551615) ⊎ (18446744073709551615 ≤ was) → HasRisen was count
+    by (inl below) = inl (omega arith)
+    by (inr full) = inr (omega arith, omega arith)
+
 -- a count goes up by one, or stays at the last value
 pub take_is_counted : {V : Type 0} (tells : V → RoomView) (rooms rooms_now : Visits V) (lost lost_now : List ℕ) (room was count : ℕ) → rooms_now ≡ rooms → lost_now ≡ lost → length lost ≡ (view_of tells rooms).book + 1 → room ≤ (view_of tells rooms).book
-    → was ≡ slice_index_or lost_now room was → count ≡ min (was + 1) 18446744073709551615 → IsLost (lossy_view tells rooms lost) (lossy_view tells rooms_now (slice_set lost_now room count)) room
-take_is_counted tells rooms rooms_now lost lost_now room was count same_rooms same_lost size in_range value is =
+    → was ≤ 18446744073709551615 → was ≡ slice_index_or lost_now room was → count ≡ min (was + 1) 18446744073709551615 → IsLost (lossy_view tells rooms lost) (lossy_view tells rooms_now (slice_set lost_now room count)) room
+take_is_counted tells rooms rooms_now lost lost_now room was count same_rooms same_lost size in_range small value is =
     subst (λ r. IsLost (lossy_view tells rooms lost) (lossy_view tells r (slice_set lost_now room count)) room) (sym same_rooms)
     (subst (λ l. IsLost (lossy_view tells rooms lost) (lossy_view tells rooms (slice_set l room count)) room) (sym same_lost)
     (let inside : room < length lost = omega arith in
     let read : slice_index_or lost room 0 ≡ was = get_or_from_slice_get lost room was 0 (slice_get_read lost (length lost) room was refl inside (subst (λ l. was ≡ slice_index_or l room was) same_lost value)) in
-    take_is_lost lost room count inside tells rooms (let risen : min (was + 1) 18446744073709551615 ≤ count = omega arith in subst (λ n. HasRisen n count) (sym read) risen)))
+    take_is_lost lost room count inside tells rooms (subst (λ n. HasRisen n count) (sym read) (rises was count small is))))
 
 take_is_never_lost : {V : Type 0} (tells : V → RoomView) (before after : Visits V) (room : ℕ) → IsLost (view_of tells before) (view_of tells after) room → ⊥
 take_is_never_lost tells before after room h = vector_never_risen tells before after room h.risen

@@ -1,12 +1,11 @@
 -- What kept rooms tell.
-use Rattle.std.specs.Prelude.{◌≡◌, ◌⊎◌, ℕ, ◌+◌, ◌<◌, ◌≤◌, Bool, true, false, Option, Some, None, List, length, slice_get, is_some, refl}
+use Rattle.std.specs.Prelude.{◌≡◌, ◌⊎◌, ℕ, ◌<◌, ◌≤◌, Bool, true, false, Option, Some, None, List, length, slice_get, is_some, refl}
 use Rattle.std.proofs.Common.{sym, ◌∙◌, ap, inl, inr, get_or, arith}
 use Rattle.std.proofs.lemmas.Option.{slice_get_within, slice_get_cases}
 use Rattle.std.specs.Option.{option_map}
 use Rattle.gx_base.specs.RoomViews.{RoomView}
 use Rattle.rooms.specs.RoomsViews.{RoomsView, is_held}
 use Rattle.rooms.specs.Visits.{AreKept, AreTold}
-use Rattle.rooms.proofs.puts.Putting.{no_bool}
 
 some_mapped : {A B : Type 0} (f : A → B) (o : Option A) → is_some (option_map f o) ≡ is_some o
 some_mapped f None = refl

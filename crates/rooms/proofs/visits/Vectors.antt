@@ -1,15 +1,19 @@
 -- Rooms in a vector act for every worker, and never lose a take.
-use Rattle.std.specs.Prelude.{◌≡◌, ℕ, ◌+◌, ◌-◌, ◌≤◌, min, Bool, true, false, if◌then◌else◌, List, [], ◌∷◌, length, slice_get, refl}
-use Rattle.std.proofs.Common.{◌∙◌, ap, subst, arith}
+use Rattle.std.specs.Prelude.{◌≡◌, ℕ, Bool, true, false, if◌then◌else◌, List, [], ◌∷◌, refl}
+use Rattle.std.proofs.Common.{◌∙◌, ap, inl, inr, arith}
 use Rattle.gx_base.specs.RoomViews.{RoomView}
 use Rattle.rooms.specs.RoomsViews.{RoomsView, entered, left}
 use Rattle.rooms.specs.HandedOut.{HasRisen}
-use Rattle.rooms.specs.Visits.{Move, Visits, everyone, ordered_in, first_view, after_moves, view_of}
+use Rattle.rooms.specs.Visits.{Move, Visits, everyone, first_view, after_moves, view_of}
 
 -- what no move changes
 record IsFixed {V : Type 0} (before after : RoomsView V) : Type 0 where
   pub acts_for : after.acts_for ≡ before.acts_for
   pub lost : after.lost ≡ before.lost
+
+none_rises : (before now : ℕ) → before ≡ 0 → now ≡ 0 → HasRisen before now → ⊥
+none_rises before now first last (inl rose) = absurd (omega arith)
+none_rises before now first last (inr stays) = let full : before ≡ 18446744073709551615 = stays.0 in absurd (omega arith)
 
 module _ {V : Type 0} (tells : V → RoomView) where
   one_move : (was_left : Bool) (room : ℕ) (value : V) (view : RoomsView V) → IsFixed view (if was_left then left tells view room value else entered view room (tells value))
@@ -31,6 +35,4 @@ module _ {V : Type 0} (tells : V → RoomView) where
     vector_lost room = ap (λ f. f room) (all_moves visits.moves (first_view tells visits.values)).lost
 
   pub vector_never_risen : (before after : Visits V) (room : ℕ) → HasRisen ((view_of tells before).lost room) ((view_of tells after).lost room) → ⊥
-  vector_never_risen before after room h = absurd (
-      let risen : min (0 + 1) 18446744073709551615 ≤ 0 = subst (λ n. min (n + 1) 18446744073709551615 ≤ 0) (vector_lost before room) (subst (λ n. min ((view_of tells before).lost room + 1) 18446744073709551615 ≤ n) (vector_lost after room) h) in omega arith
-      )
+  vector_never_risen before after room h = none_rises ((view_of tells before).lost room) ((view_of tells after).lost room) (vector_lost before room) (vector_lost after room) h

@@ -30,7 +30,7 @@ returns-clause-run g c =
     ap (λ (s : Session). is_idle s.phase) (here rest xs c.args.worker s (slice_get-get_or xs c.args.worker c.index-sessions-worker.result c.requires.worker)) ∙ sym (c.is_idle.ensures c.args.op.now) ∙ c.if-is_idle.false in
     on_ok_weaker c.note_undo.result
     (λ noted. drained_turn (operator_of g.O.Operator c.args.op.now) (machine_of (rooms_view tells c.args.rooms.now) (sessions_of rest xs)) c.args.worker c.requires.left_off live
-    (machine_of (rooms_view tells c.take_turn.new.rooms) (sessions_of rest c.take_turn.new.sessions)) (turns_of c.args.trace.now.items) (turns_of c.note_undo.new.trace.items) (event_of c.in_ok-event.event) c.in_ok-event.ensures.turned noted)
+    (machine_of (rooms_view tells c.take_turn.new.rooms) (sessions_of rest c.take_turn.new.sessions)) (turns_of c.args.trace.now.items) (turns_of c.note_undo.new.trace.items) (event_of c.in_ok-event.event) c.in_ok-event.ensures.turned.0 noted)
     c.note_undo.ensures.ok
 
 pub returns-clause-left_off : goal.returns-clause-left_off
@@ -42,5 +42,5 @@ returns-clause-left_off g c =
     ap (λ (s : Session). is_idle s.phase) (here rest xs c.args.worker s (slice_get-get_or xs c.args.worker c.index-sessions-worker.result c.requires.worker)) ∙ sym (c.is_idle.ensures c.args.op.now) ∙ c.if-is_idle.false in
     on_ok_weaker c.note_undo.result
     (λ noted. left_after (operator_of g.O.Operator c.args.op.now) (machine_of (rooms_view tells c.args.rooms.now) (sessions_of rest xs)) c.args.worker c.requires.left_off live
-    (machine_of (rooms_view tells c.take_turn.new.rooms) (sessions_of rest c.take_turn.new.sessions)) (event_of c.in_ok-event.event) c.in_ok-event.ensures.turned)
+    (machine_of (rooms_view tells c.take_turn.new.rooms) (sessions_of rest c.take_turn.new.sessions)) (event_of c.in_ok-event.event) c.in_ok-event.ensures.turned.0)
     c.note_undo.ensures.ok

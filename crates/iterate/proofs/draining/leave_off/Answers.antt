@@ -1,4 +1,4 @@
-use Rattle.std.proofs.Common.{sym, ◌∙◌, ap, subst, get_or, length}
+use Rattle.std.proofs.Common.{sym, ◌∙◌, ap, get_or, length}
 use Rattle.std.proofs.lemmas.Option.{slice_get-get_or}
 use Rattle.commit_book.specs.SerialRuns.{operator_of}
 use Rattle.gx_base.specs.Replays.{put}

@@ -1,4 +1,4 @@
-use Rattle.std.proofs.Common.{◌≡◌, false, true, refl, sym, ◌∙◌, ap, subst, length, arith}
+use Rattle.std.proofs.Common.{refl, sym, ◌∙◌, arith}
 use Rattle.commit_book.specs.SerialRuns.{operator_of}
 use Rattle.rooms.specs.Values.{tells}
 use Rattle.rooms.specs.Visits.{view_of as rooms_view}
@@ -28,7 +28,7 @@ loop-turn-preserved g c =
     let after = machine_of (rooms_view tells c.lone_turn.new.rooms) (sessions_of rest c.lone_turn.new.sessions) in
     record {
       count = c.lone_turn.auto.sessions ∙ c.loop-turn.invariant.count;
-      leads = leads_one_more op m now after (event_of c.in_ok-lone_turn.field-0) c.loop-turn.invariant.leads (sym c.nothing_is_ready.ensures ∙ c.if-nothing_is_ready.false) c.in_ok-lone_turn.ensures.turned;
+      leads = leads_one_more op m now after (event_of c.in_ok-lone_turn.field-0) c.loop-turn.invariant.leads (sym c.nothing_is_ready.ensures ∙ c.if-nothing_is_ready.false) c.in_ok-lone_turn.ensures.turned.0;
       fit = c.lone_turn.ensures.fit;
     }
 

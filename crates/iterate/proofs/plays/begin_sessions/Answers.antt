@@ -1,4 +1,4 @@
-use Rattle.std.proofs.Common.{◌≡◌, sym, ◌∙◌, ap, subst, length, arith}
+use Rattle.std.proofs.Common.{sym, ◌∙◌, ap, subst, arith}
 use Rattle.iterate.specs.PlayedTurns.{AreBegun}
 use Rattle.iterate.specs.SessionViews.{begun_view}
 use Rattle.iterate.proofs.Beginnings.{one_more_begun}

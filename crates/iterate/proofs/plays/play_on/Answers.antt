@@ -1,4 +1,4 @@
-use Rattle.std.proofs.Common.{◌≡◌, ◌<◌, Some, None, Err, refl, sym, ◌∙◌, ap, subst, length, arith}
+use Rattle.std.proofs.Common.{◌≡◌, Some, None, Err, refl, sym, ◌∙◌, ap, subst, arith}
 use Rattle.commit_book.specs.SerialRuns.{operator_of}
 use Rattle.speculation.specs.Limits.{limit_of_scheduled}
 use Rattle.speculation.specs.Premises.{ScheduledAsk}
@@ -8,6 +8,7 @@ use Rattle.rooms.specs.Visits.{view_of as rooms_view}
 use Rattle.iterate.specs.EventViews.{turns_of}
 use Rattle.iterate.specs.PlayedTurns.{machine_of, sessions_of, run_of}
 use Rattle.iterate.proofs.SessionLists.{all_free, book_is}
+use Rattle.iterate.proofs.ToldTurns.{told_still}
 use Rattle.iterate.proofs.WholeRuns.{whole, stops_in_schedule, stops_later}
 use Rattle.iterate.proofs.plays.play_on.Goals as goal
 
@@ -45,6 +46,11 @@ returns-clause-run g c =
     whole op m c.args.workers c.args.schedule.now r s last (c.in_ok-run_schedule.ensures.run ∙ ap (λ (x : Run). scheduled op x c.args.schedule.now) start)
     (subst (λ (x : Run). limit_of_scheduled op x c.args.schedule.now ≡ None) start c.in_ok-run_schedule.ensures.unlimited)
     (subst (λ (x : Run). ScheduledAsk op x c.args.schedule.now) start c.in_ok-run_schedule.ensures.asks) c.in_ok-drain.ensures.run c.in_ok-run_alone.ensures.run refl
+
+pub returns-clause-tells_right : goal.returns-clause-tells_right
+returns-clause-tells_right g c =
+    let rest = g.O.Operator.rest c.args.op.now in
+    told_still (operator_of g.O.Operator c.args.op.now) (machine_of (rooms_view tells c.args.rooms.now) (sessions_of rest c.args.sessions.now)) c.args.schedule.now c.run_schedule.new.trace.items c.drain.new.trace.items c.in_ok-drain.ensures.told c.in_ok-run_schedule.ensures.told
 
 pub returns-clause-free : goal.returns-clause-free
 returns-clause-free g c =

@@ -1,3 +1,4 @@
+use Rattle.std.proofs.Common.{arith}
 use Rattle.rooms.specs.HandedOut.{IsLost}
 use Rattle.session_cases.specs.LostTakes.{lossy_view}
 use Rattle.session_cases.proofs.LostTakes.{take_is_counted, none_is_lost}
@@ -8,7 +9,7 @@ returns-then-is_next_lost-clause-none g c =
     let before = c.args.self.now in
     let now = c.is_next_lost.new.self in
     take_is_counted g.V.Homed.told before.rooms now.rooms before.lost.items now.lost.items c.args.room c.index_mut-count.result.now c.saturating_add.result c.is_next_lost.ensures.rooms c.is_next_lost.ensures.lost before.sized c.requires.in_range
-    c.index_mut-count.ensures.value c.saturating_add.ensures
+    (omega arith) c.index_mut-count.ensures.value c.saturating_add.ensures
 
 pub returns-clause-none : goal.returns-clause-none
 returns-clause-none g c =
