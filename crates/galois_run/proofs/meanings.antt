@@ -1,3 +1,4 @@
+pub mod RunTables
 pub mod FlowRuns
 pub mod FlowAnswers
 pub mod ModeTexts

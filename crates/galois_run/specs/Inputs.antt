@@ -17,7 +17,7 @@ main_of inputs = unwrap_or inputs.main []
 
 -- what was read
 abbrev pub inputs_in : InputFiles → Inputs
-inputs_in read = record { main = option_map (λ file. file.items) read.main; conditions = None; second = None }
+inputs_in read = record { main = option_map (λ file. file.items) read.main; conditions = option_map (λ file. file.items) read.conditions; second = None }
 
 -- ---- what files hold
 

@@ -10,9 +10,13 @@ use Rattle.gx_base.specs.declared.inputs.InputFault.TheVariants as inputs
 use Rattle.gx_io.specs.declared.fault.WholeRefuse.{WholeRefuse}
 use Rattle.gx_io.specs.declared.fault.WholeRefuse.TheVariants as refusals
 use Rattle.galois_run.specs.declared.run_faults.RunFault.{RunFault}
-use Rattle.galois_run.specs.declared.run_faults.RunFault.TheVariants.{BadInput, TooLarge, Spent, Kept, NoMemory}
+use Rattle.galois_run.specs.declared.run_faults.RunFault.TheVariants.{BadTable, BadInput, TooLarge, Spent, Kept, NoMemory}
 use Rattle.galois_run.specs.declared.status.Status.{Status}
 use Rattle.galois_run.specs.declared.status.Status.TheVariants as statuses
+use Rattle.galois_run.specs.declared.status.TableFault.{TableFault}
+use Rattle.galois_run.specs.declared.status.TableFault.TheVariants.{Line, Pair}
+use Rattle.table_choice.specs.declared.refusals.TableRefuse.{TableRefuse}
+use Rattle.table_choice.specs.declared.refusals.TableRefuse.TheVariants as tables
 use Rattle.iterate.specs.declared.events.Stop.{Stop}
 use Rattle.iterate.specs.declared.events.Stop.TheVariants as stops
 use Rattle.speculation.specs.Limits.{Limit}
@@ -46,8 +50,15 @@ abbrev pub fault_of_limit : Limit → RunFault
 fault_of_limit limits.Spent = Spent
 fault_of_limit limits.Kept = Kept
 
+-- why a table is refused
+abbrev pub fault_of_table : TableRefuse → RunFault
+fault_of_table (tables.Line line) = BadTable (Line line)
+fault_of_table (tables.NotBelow first second) = BadTable (Pair first second)
+fault_of_table tables.NoMemory = NoMemory
+
 -- the status of the same name
 abbrev pub status_of_fault : RunFault → Status
+status_of_fault (BadTable why) = statuses.BadTable why
 status_of_fault (BadInput line) = statuses.BadInput line
 status_of_fault (TooLarge what) = statuses.TooLarge what
 status_of_fault Spent = statuses.Spent
@@ -68,6 +79,7 @@ pub record FaultsWhere {A : Type 0} (cause : Type 0) (fault : RunFault) (result 
 -- what a command answers on its inputs is what it means: each fault comes exactly where the inputs call for it
 pub record Answers (meaning : CommandMeaning) (inputs : Inputs) (result : Result (Vec ℕ Global) RunFault) : Type 0 where
   pub reported : IfOk result (λ text. meaning.reported inputs text.items)
+  pub bad_table : (why : TableFault) → FaultsWhere (meaning.bad_table inputs why) (BadTable why) result
   pub malformed : (line : ℕ) → FaultsWhere (meaning.malformed inputs line) (BadInput line) result
   pub too_large : (what : What) → FaultsWhere (meaning.too_large inputs what) (TooLarge what) result
   pub passes : (limit : Limit) → FaultsWhere (meaning.passes inputs limit) (fault_of_limit limit) result

@@ -1,6 +1,10 @@
 -- The options of a run on a command line: names and values, in turn.
-use Rattle.std.specs.Prelude.{ℕ, Bool, true, false, not, ◌&&◌, ◌||◌, nat_le, if◌then◌else◌, List, [], ◌∷◌, Option, Some, None, is_some, codes, bytes_eq}
+use Rattle.std.specs.Prelude.{ℕ, Bool, true, false, not, ◌&&◌, ◌||◌, ◌==◌, nat_eq, nat_le, length, if◌then◌else◌, List, [], ◌∷◌, Option, Some, None, is_some, unwrap_or, codes, bytes_eq}
+use Rattle.std.specs.List.{starts_with}
+use Rattle.gx_base.specs.declared.kinds.Choice.{Choice}
+use Rattle.gx_base.specs.declared.kinds.Choice.TheVariants.{Precise}
 use Rattle.text_lines.specs.Numbers.{number_of}
+use Rattle.table_choice.specs.Choices.{choice_of}
 use Rattle.galois_run.specs.declared.options.RunOptions.{RunOptions}
 
 -- the value that follows a name, where every other word is a name
@@ -10,6 +14,10 @@ value_of (known ∷ []) name = None
 value_of (known ∷ value ∷ words) name = if bytes_eq known name then Some value else value_of words name
 
 -- ---- which words are options
+
+-- a word that isn't empty and doesn't begin with two dashes
+abbrev pub is_plain : List ℕ → Bool
+is_plain word = not (length word == 0) && not (starts_with nat_eq word (codes "--"))
 
 abbrev pub is_between : ℕ → ℕ → Option ℕ → Bool
 is_between least most None = false
@@ -22,6 +30,8 @@ may_have name value =
     else if bytes_eq name (codes "--turns") then is_between 0 1000000 (number_of value)
     else if bytes_eq name (codes "--seed") then is_some (number_of value)
     else if bytes_eq name (codes "--trace") || bytes_eq name (codes "--told") then bytes_eq value (codes "on")
+    else if bytes_eq name (codes "--table") then is_some (choice_of value)
+    else if bytes_eq name (codes "--conditions") then is_plain value
     else false
 
 -- each name has a value that it may have, and comes once
@@ -29,6 +39,10 @@ abbrev pub are_options : List (List ℕ) → Bool
 are_options [] = true
 are_options (name ∷ []) = false
 are_options (name ∷ value ∷ words) = may_have name value && not (is_some (value_of words name)) && are_options words
+
+-- a shipped table is named, and a file of conditions too
+abbrev pub names_two_tables : List (List ℕ) → Bool
+names_two_tables words = is_some (value_of words (codes "--table")) && is_some (value_of words (codes "--conditions"))
 
 -- ---- what they say
 
@@ -41,7 +55,12 @@ abbrev pub number_or : ℕ → Option (List ℕ) → ℕ
 number_or default None = default
 number_or default (Some value) = or_default default (number_of value)
 
--- without an option there are one worker, no scheduled turns, the seed 0, and no lines of a trace
+-- the shipped table that is named, or that by default
+abbrev pub table_or : Choice → Option (List ℕ) → Choice
+table_or default None = default
+table_or default (Some value) = unwrap_or (choice_of value) default
+
+-- without an option there are one worker, no scheduled turns, the seed 0, no lines of a trace, and the precise table
 abbrev pub options_by : List (List ℕ) → RunOptions
 options_by words = record {
   workers = number_or 1 (value_of words (codes "--virtual"));
@@ -49,8 +68,9 @@ options_by words = record {
   seed = number_or 0 (value_of words (codes "--seed"));
   trace = is_some (value_of words (codes "--trace"));
   told = is_some (value_of words (codes "--told"));
+  table = table_or Precise (value_of words (codes "--table"));
 }
 
--- the options that words are, where they are options
+-- the options that words are, where they are options and name one table at most
 abbrev pub options_of : List (List ℕ) → Option RunOptions
-options_of words = if are_options words then Some (options_by words) else None
+options_of words = if are_options words && not (names_two_tables words) then Some (options_by words) else None

@@ -5,6 +5,7 @@ use Rattle.gx_io.specs.Sinks.{Written, AddsWhole, AddsFront}
 use Rattle.gx_base.specs.declared.inputs.What.{What}
 use Rattle.galois_run.specs.declared.status.Status.{Status}
 use Rattle.galois_run.specs.declared.status.Status.TheVariants.{Ok, Usage, BadInput, ReadFault, WriteFault, NoMemory, TooLarge, Spent, Kept, BadTable}
+use Rattle.galois_run.specs.declared.status.TableFault.{TableFault}
 use Rattle.speculation.specs.Limits.{Limit}
 use Rattle.speculation.specs.Limits as limits
 use Rattle.galois_run.specs.Inputs.{Inputs, AreWithin, PassesFileLimit, IsFileLimit}
@@ -30,6 +31,7 @@ status_of_limit limits.Kept = Kept
 -- each refusal of the inputs comes exactly where they call for it
 pub record IsCaused (meaning : CommandMeaning) (inputs : Inputs) (status : Status) : Type 0 where
   pub too_large : (what : What) → ComesWhere (PassesLimit meaning inputs what) (TooLarge what) status
+  pub bad_table : (why : TableFault) → ComesWhere (AreWithin inputs × meaning.bad_table inputs why) (BadTable why) status
   pub bad_input : (line : ℕ) → ComesWhere (AreWithin inputs × meaning.malformed inputs line) (BadInput line) status
   pub past : (limit : Limit) → ComesWhere (AreWithin inputs × meaning.passes inputs limit) (status_of_limit limit) status
 
@@ -61,7 +63,7 @@ IsAnswer meaning (BadInput line) = meaning.lines line
 IsAnswer meaning (TooLarge what) = IsFileLimit what ⊎ meaning.limits what
 IsAnswer meaning Spent = meaning.runs_on
 IsAnswer meaning Kept = meaning.runs_on
-IsAnswer meaning (BadTable why) = ⊥
+IsAnswer meaning (BadTable why) = meaning.faults why
 IsAnswer meaning _ = ⊤
 
 -- the statuses before which something may have been written

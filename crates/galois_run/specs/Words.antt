@@ -1,11 +1,10 @@
 -- The words of a command line.
-use Rattle.std.specs.Prelude.{◌≡◌, ℕ, Bool, not, ◌&&◌, ◌==◌, if◌then◌else◌, List, [], ◌∷◌, length, Option, Some, None, option_map, codes, bytes_eq, nat_eq, string_bytes}
-use Rattle.std.specs.List.{starts_with}
+use Rattle.std.specs.Prelude.{◌≡◌, ℕ, if◌then◌else◌, List, [], ◌∷◌, Option, Some, None, option_map, codes, bytes_eq, string_bytes}
 use Rattle.galois_run.specs.declared.words.Command.{Command}
 use Rattle.galois_run.specs.declared.words.Command.TheVariants.{Flow, Classify, Help, Version}
 use Rattle.galois_run.specs.declared.words.Plan.{Plan}
 use Rattle.galois_run.specs.declared.options.RunOptions.{RunOptions}
-use Rattle.galois_run.specs.RunOptions.{options_by, options_of}
+use Rattle.galois_run.specs.RunOptions.{value_of, is_plain, options_by, options_of}
 
 -- a command, the names of the files that are to be read for it, where the words give them (its main file, a file of
 -- conditions, and a second file), and the options of its run
@@ -20,9 +19,9 @@ pub record Planned : Type 0 where
 abbrev pub alone : Command → Planned
 alone command = record { command = command; main = None; conditions = None; second = None; options = options_by [] }
 
--- a command on one file
-abbrev pub on_main : Command → List ℕ → RunOptions → Planned
-on_main command file options = record { command = command; main = Some file; conditions = None; second = None; options = options }
+-- a command on one file, and on one of conditions where its options name one
+abbrev pub on_main : Command → List ℕ → List (List ℕ) → RunOptions → Planned
+on_main command file words options = record { command = command; main = Some file; conditions = value_of words (codes "--conditions"); second = None; options = options }
 
 abbrev pub command_of : List ℕ → Option Command
 command_of word =
@@ -37,10 +36,6 @@ lone_command word =
     else if bytes_eq word (codes "--version") then Some Version
     else None
 
--- a word that isn't empty and doesn't begin with two dashes
-abbrev pub is_plain : List ℕ → Bool
-is_plain word = not (length word == 0) && not (starts_with nat_eq word (codes "--"))
-
 -- the options that words are for a command. One that runs nothing has none
 abbrev pub options_for : Command → List (List ℕ) → Option RunOptions
 options_for Flow words = options_of words
@@ -49,7 +44,7 @@ options_for command (word ∷ words) = None
 
 abbrev pub with_file : Option Command → List ℕ → List (List ℕ) → Option Planned
 with_file None file words = None
-with_file (Some command) file words = if is_plain file then option_map (on_main command file) (options_for command words) else None
+with_file (Some command) file words = if is_plain file then option_map (on_main command file words) (options_for command words) else None
 
 -- the grammar of the words: one of those that stand alone, or a command, one plain word, and the command's options
 abbrev pub plan_of : List (List ℕ) → Option Planned
@@ -58,7 +53,7 @@ plan_of (word ∷ []) = option_map alone (lone_command word)
 plan_of (word ∷ file ∷ words) = with_file (command_of word) file words
 
 abbrev pub planned : Plan → Planned
-planned plan = record { command = plan.command; main = option_map string_bytes plan.file; conditions = None; second = None; options = plan.options }
+planned plan = record { command = plan.command; main = option_map string_bytes plan.file; conditions = option_map string_bytes plan.conditions; second = None; options = plan.options }
 
 abbrev pub IsPlanned : Option Planned → Plan → Type 0
 IsPlanned wanted plan = wanted ≡ Some (planned plan)

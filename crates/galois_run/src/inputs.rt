@@ -1,8 +1,8 @@
 //! The files that a plan names, read whole.
 
-ghost use Rattle.std.specs.Prelude.{◌≡◌, ◌≢◌, Err, IfSome, IfOk, IsErrOf};
+ghost use Rattle.std.specs.Prelude.{◌≡◌, ◌≢◌, List, Option, ℕ, Err, IfSome, IsSomeAnd, IfOk, IsErrOf, option_map};
 ghost use Rattle.gx_io.specs.Faults.{Counts};
-ghost use Rattle.galois_run.specs.Inputs.{main_of, inputs_in, inputs_of, AreWithin, HasTooLong};
+ghost use Rattle.galois_run.specs.Inputs.{main_of, inputs_in, inputs_of, held_under, IsWithinLength, IsTooLong, AreWithin, HasTooLong};
 ghost use Rattle.galois_run.specs.Words.{planned};
 
 use crate::words::Plan;
@@ -16,6 +16,7 @@ const MOST_BYTES: u64 = 67_108_864;
 #[derive(Drop)]
 pub(crate) struct InputFiles {
     main: Option<Vec<u8>>,
+    conditions: Option<Vec<u8>>,
 }
 
 impl InputFiles {
@@ -28,9 +29,37 @@ impl InputFiles {
             None => &[],
         }
     }
+
+    /// The bytes of the file of conditions, where the plan names one.
+    pub(crate) fn conditions(&self) -> Option<&[u8]>
+        ensures { option_map (λ bytes. bytes.now) result ≡ (inputs_in self.now).conditions }
+    {
+        match &self.conditions {
+            Some(bytes) => Some(bytes),
+            None => None,
+        }
+    }
 }
 
-/// Reads the files that a plan names.
+/// Reads the file of a name, where there is one.
+fn read_named<F: Files>(
+    alloc: Global,
+    name: Option<&str>,
+    files: &mut F,
+) -> Result<Option<Vec<u8>>, WholeRefuse>
+    ensures whole { IfOk result (λ read. IfSome (held_under (F.holds files.old) (option_map (λ name. name.now) name.entry)) (λ held. option_map (λ file. file.items) read ≡ held)) }
+    ensures within { IfOk result (λ read. IfSome read (λ file. IsWithinLength file.items)) }
+    ensures too_long { IsErrOf result WholeRefuse.TooLong → IfSome (held_under (F.holds files.old) (option_map (λ name. name.now) name.entry)) (λ held. IsSomeAnd held IsTooLong) }
+    ensures holds { F.holds files.new ≡ F.holds files.old }
+    ensures counts { Counts (F.faults files.old) (F.faults files.new) (result ≡ Err WholeRefuse.Failed) (result ≢ Err WholeRefuse.Failed) }
+{
+    match name {
+        Some(name) => Ok(Some(read_whole(alloc, files, name, MOST_BYTES)?)),
+        None => Ok(None),
+    }
+}
+
+/// Reads the files that a plan names, that of conditions first.
 pub(crate) fn read_inputs<F: Files>(
     alloc: Global,
     plan: &Plan,
@@ -42,9 +71,7 @@ pub(crate) fn read_inputs<F: Files>(
     ensures holds { F.holds files.new ≡ F.holds files.old }
     ensures counts { Counts (F.faults files.old) (F.faults files.new) (result ≡ Err WholeRefuse.Failed) (result ≢ Err WholeRefuse.Failed) }
 {
-    let main = match plan.file() {
-        Some(name) => Some(read_whole(alloc, files, name, MOST_BYTES)?),
-        None => None,
-    };
-    Ok(InputFiles { main })
+    let conditions = read_named(alloc, plan.conditions(), files)?;
+    let main = read_named(alloc, plan.file(), files)?;
+    Ok(InputFiles { main, conditions })
 }

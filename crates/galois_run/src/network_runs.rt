@@ -3,52 +3,41 @@
 ghost use Rattle.std.specs.Prelude.{◌≡◌, ◌≤◌, ℕ, Err, IfOk, map, slice_get, [], false};
 ghost use Rattle.gx_base.specs.declared.inputs.What.{What};
 ghost use Rattle.galois_run.specs.declared.run_faults.RunFault.TheVariants as faults;
+ghost use Rattle.galois_run.specs.declared.status.TableFault.{TableFault};
 ghost use Rattle.commit_book.specs.BookViews.{new_book};
 ghost use Rattle.flow_graph.specs.FlowState.{state_of};
 ghost use Rattle.preflow_push.specs.Networks.{view};
 ghost use Rattle.speculation.specs.Limits.{Limit};
 ghost use Rattle.iterate.specs.EventViews.{turns_of};
 ghost use Rattle.galois_run.specs.RunFaults.{fault_of_limit};
-ghost use Rattle.galois_run.specs.NetworkRuns.{AreRoomsOf, IsNetworkPlayed, gates_over, states_in, last_book};
-ghost use Rattle.galois_run.specs.commands.Flow.{IsReportOf, IsRunPast, IsRunTable, new_gate};
+ghost use Rattle.galois_run.specs.NetworkRuns.{ServesGates, AreRoomsOf, IsNetworkPlayed, gates_over, states_in, last_book};
+ghost use Rattle.galois_run.specs.commands.Flow.{IsReportOf, IsRunPast, new_gate};
 
 use crate::options::RunOptions;
 use crate::run_faults::RunFault;
-use crate::run_tables::whole_table;
 use commit_book::Book;
 use flow_graph::FlowShard;
-use gate_core::laws::shipped_tables_serve_gates;
-use gate_core::{Gate, ScanScreen};
-use gx_base::{Choice, Kind, NoMemory, SeqType, Table};
+use gate_core::Gate;
+use gx_base::{Kind, NoMemory, Table};
 use iterate::{Played, play};
-use kind_tables::laws::tables_below_shipped_ones_are_not_general;
 use preflow_push::{Discharge, Network, report, start};
 use rooms::{Value, VecRooms};
 use schedules::schedule;
 use std::alloc::Global;
+use table_choice::{AnyScreen, screen_for};
 use traces::put_trace;
-
-/// The table of the gates of a run.
-fn run_table(alloc: Global) -> Result<Table, NoMemory>
-    ensures { IfOk result IsRunTable }
-{
-    let shipped = FlowShard::shipped(alloc, Kind::Flow, Choice::Precise)?;
-    whole_table(alloc, Kind::Flow, &shipped)
-}
 
 /// A gate over a shard.
 fn gate_over(
     alloc: Global,
     shard: FlowShard,
-    table: &Table,
-) -> Result<Gate<FlowShard, ScanScreen>, NoMemory>
-    requires { IsRunTable table.now }
-    ensures { IfOk result (λ gate. gate ≡ new_gate table.now (state_of shard)) }
+    table: Table,
+) -> Result<Gate<FlowShard, AnyScreen>, NoMemory>
+    requires { ServesGates table }
+    ensures { IfOk result (λ gate. gate ≡ new_gate table (state_of shard)) }
 {
-    shipped_tables_serve_gates::<FlowShard>();
-    tables_below_shipped_ones_are_not_general();
-    let table = table.copy()?;
-    Ok(Gate::new(alloc, shard, Kind::Flow, table, ScanScreen::new()))
+    let screen = screen_for(alloc, Kind::Flow, &table)?;
+    Ok(Gate::new(alloc, shard, Kind::Flow, table, screen))
 }
 
 /// A gate over each shard.
@@ -56,13 +45,13 @@ fn gates_over(
     alloc: Global,
     shards: Vec<FlowShard>,
     table: &Table,
-) -> Result<Vec<Value<FlowShard, ScanScreen>>, NoMemory>
-    requires { IsRunTable table.now }
+) -> Result<Vec<Value<FlowShard, AnyScreen>>, NoMemory>
+    requires { ServesGates table.now }
     ensures { IfOk result (λ values. values.items ≡ gates_over table.now (map state_of shards.items)) }
 {
     let mut values = Vec::new(alloc);
     for shard in shards {
-        values.push(Value::Object(gate_over(alloc, shard, table)?))?;
+        values.push(Value::Object(gate_over(alloc, shard, table.copy()?)?))?;
     }
     Ok(values)
 }
@@ -70,13 +59,14 @@ fn gates_over(
 /// The rooms of a network, as they are at the start.
 fn rooms_of(
     alloc: Global,
+    table: &Table,
     net: &Network,
-) -> Result<VecRooms<Value<FlowShard, ScanScreen>>, NoMemory>
-    ensures { IfOk result (AreRoomsOf (view net.now)) }
+) -> Result<VecRooms<Value<FlowShard, AnyScreen>>, NoMemory>
+    requires { ServesGates table.now }
+    ensures { IfOk result (AreRoomsOf table.now (view net.now)) }
 {
-    let table = run_table(alloc)?;
     let (shards, ready) = start(alloc, net)?;
-    let mut values = gates_over(alloc, shards, &table)?;
+    let mut values = gates_over(alloc, shards, table)?;
     values.push(Value::Book(Book::new(alloc, false, &ready)?))?;
     Ok(VecRooms::new(alloc, values))
 }
@@ -85,15 +75,18 @@ fn rooms_of(
 pub(crate) fn run_network(
     alloc: Global,
     options: RunOptions,
+    table: &Table,
     net: &Network,
-) -> Result<Played<FlowShard, ScanScreen>, RunFault>
-    requires { 1 ≤ options.workers }
-    ensures played { IfOk result (λ played. IsNetworkPlayed options (view net.now) (turns_of played.trace.items) (slice_get played.values.items)) }
-    ensures past { (limit : Limit) → result ≡ Err (fault_of_limit limit) → IsRunPast options (view net.now) limit }
+) -> Result<Played<FlowShard, AnyScreen>, RunFault>
+    requires workers { 1 ≤ options.workers }
+    requires table { ServesGates table.now }
+    ensures played { IfOk result (λ played. IsNetworkPlayed options table.now (view net.now) (turns_of played.trace.items) (slice_get played.values.items)) }
+    ensures past { (limit : Limit) → result ≡ Err (fault_of_limit limit) → IsRunPast options table.now (view net.now) limit }
     ensures well_formed { (line : ℕ) → result ≡ Err (faults.BadInput line) → ⊥ }
     ensures small { (what : What) → result ≡ Err (faults.TooLarge what) → ⊥ }
+    ensures accepted { (why : TableFault) → result ≡ Err (faults.BadTable why) → ⊥ }
 {
-    let rooms = rooms_of(alloc, net)?;
+    let rooms = rooms_of(alloc, table, net)?;
     let operator = Discharge::new(alloc, net)?;
     let turns = schedule(alloc, options.seed, options.workers, options.turns)?;
     match play(alloc, rooms, &operator, options.workers, &turns) {
@@ -105,7 +98,7 @@ pub(crate) fn run_network(
 /// Takes the shards out of their gates, and the book from beside them.
 fn taken_out(
     alloc: Global,
-    values: Vec<Value<FlowShard, ScanScreen>>,
+    values: Vec<Value<FlowShard, AnyScreen>>,
 ) -> Result<(Vec<FlowShard>, Book), NoMemory>
     ensures shards { IfOk result (λ parts. map state_of parts.0.items ≡ states_in values.items) }
     ensures book { IfOk result (λ parts. parts.1 ≡ last_book (new_book false []) values.items) }
@@ -125,11 +118,12 @@ fn taken_out(
 pub(crate) fn report_played(
     alloc: Global,
     options: RunOptions,
+    table: &Table,
     net: &Network,
-    played: Played<FlowShard, ScanScreen>,
+    played: Played<FlowShard, AnyScreen>,
 ) -> Result<Vec<u8>, NoMemory>
-    requires { IsNetworkPlayed options (view net.now) (turns_of played.trace.items) (slice_get played.values.items) }
-    ensures { IfOk result (λ text. IsReportOf options (view net.now) text.items) }
+    requires { IsNetworkPlayed options table.now (view net.now) (turns_of played.trace.items) (slice_get played.values.items) }
+    ensures { IfOk result (λ text. IsReportOf options table.now (view net.now) text.items) }
 {
     let Played { values, trace } = played;
     let (shards, book) = taken_out(alloc, values)?;

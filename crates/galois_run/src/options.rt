@@ -1,7 +1,9 @@
 ghost use Rattle.std.specs.Prelude.{◌≡◌, ◌≤◌, ◌<◌, ◌∷◌, length, true, IfSome, IfNone, codes, map, option_map, string_bytes};
 ghost use Rattle.text_lines.specs.Numbers.{number_of};
-ghost use Rattle.galois_run.specs.RunOptions.{value_of, is_between, may_have, are_options, number_or, options_by, options_of};
+ghost use Rattle.galois_run.specs.RunOptions.{value_of, is_plain, is_between, may_have, are_options, names_two_tables, number_or, table_or, options_by, options_of};
 
+use gx_base::Choice;
+use table_choice::choice_named;
 use text_lines::number;
 
 /// How a command runs its bodies, and what it tells of that.
@@ -17,6 +19,8 @@ pub struct RunOptions {
     pub trace: bool,
     /// Whether each conflict is told.
     pub told: bool,
+    /// The shipped table that the objects are under, where the user gives none.
+    pub table: Choice,
 }
 
 /// Those without any option on the command line.
@@ -26,14 +30,15 @@ pub(crate) const NO_OPTIONS: RunOptions = RunOptions {
     seed: 0,
     trace: false,
     told: false,
+    table: Choice::Precise,
 };
 
-/// The options that words are: names and values in turn, each name once. None where they aren't.
+/// The options that words are: names and values in turn, each name once, and one table at most. None where they aren't.
 pub(crate) fn read_options(words: &[String]) -> Option<RunOptions>
     ensures options { result ≡ options_of (map string_bytes words.now) }
     ensures workers { IfSome result (λ options. 1 ≤ options.workers) }
 {
-    if !are_options(words) {
+    if !are_options(words) || names_two_tables(words) {
         return None;
     }
     Some(options_in(words))
@@ -51,7 +56,22 @@ fn options_in(words: &[String]) -> RunOptions
         seed: number_or(0, value_of(words, "--seed")),
         trace: value_of(words, "--trace").is_some(),
         told: value_of(words, "--told").is_some(),
+        table: table_or(Choice::Precise, value_of(words, "--table")),
     }
+}
+
+/// The name of the file of conditions that options say.
+pub(crate) fn conditions_in(words: &[String]) -> Option<&str>
+    ensures { option_map (λ name. name.now) result ≡ value_of (map string_bytes words.now) (codes "--conditions") }
+{
+    value_of(words, "--conditions")
+}
+
+/// Whether options name a shipped table, and a file of conditions too.
+fn names_two_tables(words: &[String]) -> bool
+    ensures { result ≡ names_two_tables (map string_bytes words.now) }
+{
+    value_of(words, "--table").is_some() && value_of(words, "--conditions").is_some()
 }
 
 /// How many virtual workers options say.
@@ -115,8 +135,17 @@ fn may_have(name: &str, value: &str) -> bool
         "--turns" => is_between(0, 1_000_000, value),
         "--seed" => number(value.as_bytes()).is_some(),
         "--trace" | "--told" => value == "on",
+        "--table" => choice_named(value).is_some(),
+        "--conditions" => is_plain(value),
         _ => false,
     }
+}
+
+/// Whether a word isn't empty and doesn't begin with two dashes.
+pub(crate) fn is_plain(word: &str) -> bool
+    ensures { result ≡ is_plain word.now }
+{
+    !word.is_empty() && !word.starts_with("--")
 }
 
 fn is_between(least: u64, most: u64, value: &str) -> bool
@@ -134,6 +163,16 @@ fn number_or(default: u64, value: Option<&str>) -> u64
 {
     match value {
         Some(value) => number(value.as_bytes()).unwrap_or(default),
+        None => default,
+    }
+}
+
+/// The shipped table that is named, or else that by default.
+fn table_or(default: Choice, value: Option<&str>) -> Choice
+    ensures { result ≡ table_or default (option_map (λ value. value.now) value.entry) }
+{
+    match value {
+        Some(value) => choice_named(value).unwrap_or(default),
         None => default,
     }
 }

@@ -1,13 +1,16 @@
 //! Why a command makes no report on its inputs.
 
-use crate::status::Status;
+use crate::status::{Status, TableFault};
 use gx_base::{NoMemory, What};
 use gx_io::WholeRefuse;
 use iterate::Stop;
+use table_choice::TableRefuse;
 
 /// Why there is no report on the inputs.
 #[derive(Clone, Copy, Debug, PartialEq, Eq, Drop)]
 pub enum RunFault {
+    /// The conditions are no table that the command may run under.
+    BadTable { why: TableFault },
     /// The inputs are not of the form, and this line is told.
     BadInput { line: u64 },
     /// The inputs are of the form, and past this limit.
@@ -27,6 +30,25 @@ impl From<NoMemory> for RunFault {
 
     fn from(_refused: NoMemory) -> RunFault {
         RunFault::NoMemory
+    }
+}
+
+impl From<TableRefuse> for RunFault {
+    ghost use Rattle.std.specs.Prelude.{◌≡◌};
+    ghost use Rattle.galois_run.specs.RunFaults.{fault_of_table};
+
+    ghost from_gives = { λ refused fault. fault ≡ fault_of_table refused };
+
+    fn from(refused: TableRefuse) -> RunFault {
+        match refused {
+            TableRefuse::Line { line } => RunFault::BadTable {
+                why: TableFault::Line(line),
+            },
+            TableRefuse::NotBelow { first, second } => RunFault::BadTable {
+                why: TableFault::Pair { first, second },
+            },
+            TableRefuse::NoMemory => RunFault::NoMemory,
+        }
     }
 }
 
@@ -53,6 +75,7 @@ impl From<RunFault> for Status {
 
     fn from(fault: RunFault) -> Status {
         match fault {
+            RunFault::BadTable { why } => Status::BadTable { why },
             RunFault::BadInput { line } => Status::BadInput { line },
             RunFault::TooLarge { what } => Status::TooLarge { what },
             RunFault::Spent => Status::Spent,

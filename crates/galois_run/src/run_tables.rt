@@ -1,13 +1,40 @@
 //! The tables of the gates of a run.
 
-ghost use Rattle.std.specs.Prelude.{◌≡◌, true, IfOk, OnOk};
+ghost use Rattle.std.specs.Prelude.{◌≡◌, true, IfOk, IfErr, OnOk, option_map};
 ghost use Rattle.gx_base.specs.Kinds.{kind_number};
 ghost use Rattle.gx_base.specs.Methods.{is_method};
 ghost use Rattle.gx_base.specs.TableRows.{row_of};
-ghost use Rattle.galois_run.specs.RunTables.{GainsRows, IsWholeTable};
+ghost use Rattle.galois_run.specs.RunFaults.{FaultsWhere};
+ghost use Rattle.galois_run.specs.RunTables.{GainsRows, IsWholeTable, TellsTable};
+ghost use Rattle.galois_run.specs.NetworkRuns.{ServesGates};
+ghost use Rattle.galois_run.specs.commands.Flow.{IsRunTable, IsBadTable};
+ghost use Rattle.galois_run.specs.declared.run_faults.RunFault.TheVariants as faults;
+ghost use Rattle.galois_run.specs.declared.status.TableFault.{TableFault};
 
-use gx_base::{Kind, NoMemory, Table, method_at};
+use crate::run_faults::RunFault;
+use flow_graph::FlowShard;
+use gx_base::{Choice, Kind, NoMemory, Table, method_at};
+use kind_tables::laws::only_precise_domains_are_general;
 use std::alloc::Global;
+use table_choice::table_of_run;
+
+/// The table of the gates of a run: that of a user's conditions, where there are some, and else the shipped one.
+pub(crate) fn run_table(
+    alloc: Global,
+    choice: Choice,
+    conditions: Option<&[u8]>,
+) -> Result<Table, RunFault>
+    ensures table { IfOk result (IsRunTable choice (option_map (λ conditions. conditions.now) conditions.entry)) }
+    ensures serves { IfOk result ServesGates }
+    ensures bad_table { (why : TableFault) → FaultsWhere (IsBadTable (option_map (λ conditions. conditions.now) conditions.entry) why) (faults.BadTable why) result }
+    ensures no_others { IfErr result TellsTable }
+{
+    only_precise_domains_are_general();
+    match table_of_run::<FlowShard>(alloc, Kind::Flow, choice, conditions) {
+        Ok(rows) => Ok(whole_table(alloc, Kind::Flow, &rows)?),
+        Err(refused) => Err(RunFault::from(refused)),
+    }
+}
 
 /// A table that has the rows of another one for a kind's pairs of methods, and no others.
 pub(crate) fn whole_table(alloc: Global, kind: Kind, rows: &Table) -> Result<Table, NoMemory>

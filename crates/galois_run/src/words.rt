@@ -1,9 +1,9 @@
-ghost use Rattle.std.specs.Prelude.{◌≡◌, ◌↔◌, ◌≤◌, ◌<◌, [], ◌∷◌, length, None, IsErrOf, IfOk, IfSome, IfNone, map, string_bytes};
+ghost use Rattle.std.specs.Prelude.{◌≡◌, ◌↔◌, ◌≤◌, ◌<◌, [], ◌∷◌, length, None, IsErrOf, IfOk, IfSome, IfNone, map, option_map, string_bytes};
 ghost use Rattle.galois_run.specs.RunOptions.{options_by};
 ghost use Rattle.galois_run.specs.declared.words.WordsFault.TheVariants.{NoMemory};
-ghost use Rattle.galois_run.specs.Words.{command_of, lone_command, is_plain, options_for, IsPlanned, planned, plan_of};
+ghost use Rattle.galois_run.specs.Words.{command_of, lone_command, options_for, IsPlanned, planned, plan_of};
 
-use crate::options::{NO_OPTIONS, RunOptions, read_options};
+use crate::options::{NO_OPTIONS, RunOptions, conditions_in, is_plain, read_options};
 use std::alloc::{AllocError, Global};
 
 /// What the program is asked to do.
@@ -24,6 +24,7 @@ pub enum Command {
 pub struct Plan {
     command: Command,
     file: Option<String>,
+    conditions: Option<String>,
     options: RunOptions,
 }
 
@@ -61,12 +62,6 @@ fn lone_command(word: &str) -> Option<Command>
         "--version" => Some(Command::Version),
         _ => None,
     }
-}
-
-fn is_plain(word: &str) -> bool
-    ensures { result ≡ is_plain word.now }
-{
-    !word.is_empty() && !word.starts_with("--")
 }
 
 /// The options that words are for a command. One that runs nothing has none.
@@ -116,9 +111,20 @@ fn plan_alone(word: &str) -> Result<Plan, WordsFault>
         Some(command) => Ok(Plan {
             command,
             file: None,
+            conditions: None,
             options: NO_OPTIONS,
         }),
         None => Err(WordsFault::Usage),
+    }
+}
+
+/// The text of a word, where there is one.
+fn owned(alloc: Global, word: Option<&str>) -> Result<Option<String>, AllocError>
+    ensures { IfOk result (λ text. option_map string_bytes text ≡ option_map (λ word. word.now) word.entry) }
+{
+    match word {
+        Some(word) => Ok(Some(String::from_str(alloc, word)?)),
+        None => Ok(None),
     }
 }
 
@@ -138,9 +144,11 @@ fn plan_on_file(alloc: Global, word: &str, file: &str, words: &[String]) -> Resu
         return Err(WordsFault::Usage);
     };
     let file = String::from_str(alloc, file)?;
+    let conditions = owned(alloc, conditions_in(words))?;
     Ok(Plan {
         command,
         file: Some(file),
+        conditions,
         options,
     })
 }
@@ -167,6 +175,16 @@ impl Plan {
         ensures { option_map (λ name. name.now) result ≡ (planned self.now).main }
     {
         match &self.file {
+            Some(name) => Some(name.as_str()),
+            None => None,
+        }
+    }
+
+    /// The name of the file of conditions, where the words give one.
+    pub fn conditions(&self) -> Option<&str>
+        ensures { option_map (λ name. name.now) result ≡ (planned self.now).conditions }
+    {
+        match &self.conditions {
             Some(name) => Some(name.as_str()),
             None => None,
         }

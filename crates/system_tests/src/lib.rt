@@ -17,6 +17,8 @@ mod serial_cases;
 #[cfg(test)]
 mod table_cases;
 #[cfg(test)]
+mod table_runs;
+#[cfg(test)]
 mod trace_cases;
 #[cfg(test)]
 mod turn_cases;

@@ -1,5 +1,5 @@
 -- What `flow` answers is what it means.
-use Rattle.std.proofs.Common.{◌≡◌, ◌≢◌, ◌⊎◌, inl, inr, ℕ, List, IfOk, Result, Ok, Err, Vec, refl, sym, ap, subst, ◌∙◌}
+use Rattle.std.proofs.Common.{◌≡◌, ◌≢◌, ◌⊎◌, inl, inr, ℕ, List, Option, IfOk, Result, Ok, Err, Vec, refl, sym, ap, subst, ◌∙◌}
 use Rattle.std.specs.Global.{Global}
 use Rattle.gx_base.specs.declared.inputs.What.{What}
 use Rattle.gx_base.specs.declared.inputs.InputFault.{InputFault}
@@ -8,25 +8,30 @@ use Rattle.preflow_push.specs.declared.network.Network.{Network}
 use Rattle.preflow_push.specs.Networks.{Net, view}
 use Rattle.preflow_push.specs.FlowLimits.{IsReadable, IsTooLarge, CallsFor, answer_of}
 use Rattle.preflow_push.proofs.CallerLemmas.{one_answer}
+use Rattle.gx_base.specs.declared.kinds.Choice.{Choice}
+use Rattle.gx_base.specs.TableRows.{RowMap}
+use Rattle.galois_run.specs.declared.status.TableFault.{TableFault}
 use Rattle.galois_run.specs.declared.run_faults.RunFault.{RunFault}
-use Rattle.galois_run.specs.declared.run_faults.RunFault.TheVariants.{BadInput, TooLarge, Spent, Kept, NoMemory}
+use Rattle.galois_run.specs.declared.run_faults.RunFault.TheVariants.{BadTable, BadInput, TooLarge, Spent, Kept, NoMemory}
 use Rattle.galois_run.specs.Inputs.{Inputs, main_of}
 use Rattle.speculation.specs.Limits.{Limit}
 use Rattle.speculation.specs.Limits as limits
 use Rattle.galois_run.specs.declared.options.RunOptions.{RunOptions}
 use Rattle.galois_run.specs.RunFaults.{fault_of_input, fault_of_limit, FaultsWhere, Answers}
-use Rattle.galois_run.specs.commands.Flow.{IsReportOf, IsFlowReport, IsFlowPast, IsFaultyFlow, flow_meaning}
-use Rattle.galois_run.proofs.meanings.FlowRuns.{one_limit, ends_or_passes}
+use Rattle.galois_run.specs.commands.Flow.{IsRunTable, IsBadTable, AreAccepted, UnderRunTable, IsReportOf, IsFlowReport, IsFlowPast, IsFaultyFlow, flow_meaning}
+use Rattle.galois_run.proofs.meanings.FlowRuns.{RunsPast, one_limit, ends_or_passes}
+use Rattle.galois_run.proofs.meanings.RunTables.{accepted}
 
 abbrev Made : Type 0
 Made = Result (Vec ℕ Global) RunFault
 
 -- what is known of what is made of a flow file
-record Known (options : RunOptions) (bytes : List ℕ) (result : Made) : Type 0 where
-  pub reported : IfOk result (λ text. IsFlowReport options bytes text.items)
-  pub malformed : (line : ℕ) → result ≡ Err (BadInput line) → IsFaultyFlow bytes line
-  pub too_large : (what : What) → result ≡ Err (TooLarge what) → IsTooLarge bytes what
-  pub past : (limit : Limit) → result ≡ Err (fault_of_limit limit) → IsFlowPast options bytes limit
+record Known (options : RunOptions) (conditions : Option (List ℕ)) (bytes : List ℕ) (result : Made) : Type 0 where
+  pub reported : IfOk result (λ text. UnderRunTable options.table conditions (λ table. IsFlowReport options table bytes text.items))
+  pub bad_table : (why : TableFault) → FaultsWhere (IsBadTable conditions why) (BadTable why) result
+  pub malformed : (line : ℕ) → result ≡ Err (BadInput line) → AreAccepted conditions × IsFaultyFlow bytes line
+  pub too_large : (what : What) → result ≡ Err (TooLarge what) → AreAccepted conditions × IsTooLarge bytes what
+  pub past : (limit : Limit) → result ≡ Err (fault_of_limit limit) → RunsPast options conditions bytes limit
 
 -- ---- a text calls for one answer
 pub read_or_faulty : (bytes : List ℕ) (net : Net) (line : ℕ) → IsReadable bytes net → IsFaultyFlow bytes line → ⊥
@@ -53,64 +58,94 @@ same_limit bytes a b p q =
     let e : answer a ≡ answer b = one_answer bytes (Err (inputs.Large a)) (Err (inputs.Large b)) p q in
     cc
 
-module _ (options : RunOptions) (bytes : List ℕ) where
-  malformed : (result : Made) (line : ℕ) → Known options bytes result → FaultsWhere (IsFaultyFlow bytes line) (BadInput line) result
-  malformed (Ok text) line known = record { only = λ e. absurd (cc); always = λ m. absurd (read_or_faulty bytes known.reported.net line known.reported.is_read m) }
+module _ (options : RunOptions) (conditions : Option (List ℕ)) (bytes : List ℕ) where
+  abbrev Is : Made → Type 0
+  Is result = Known options conditions bytes result
+
+  malformed : (result : Made) (line : ℕ) → Is result → FaultsWhere (AreAccepted conditions × IsFaultyFlow bytes line) (BadInput line) result
+  malformed (Ok text) line known = record { only = λ e. absurd (cc); always = λ m. absurd (read_or_faulty bytes known.reported.holds.net line known.reported.holds.is_read m.1) }
+  malformed (Err (BadTable why)) line known = record { only = λ e. absurd (cc); always = λ m. absurd (m.0 why ((known.bad_table why).only refl)) }
   malformed (Err (BadInput told)) line known = record {
     only = known.malformed line;
-    always = λ m. inl (ap (λ (n : ℕ). Err (BadInput n)) (same_line bytes told line (known.malformed told refl) m));
+    always = λ m. inl (ap (λ (n : ℕ). Err (BadInput n)) (same_line bytes told line (known.malformed told refl).1 m.1));
   }
-  malformed (Err (TooLarge what)) line known = record { only = λ e. absurd (cc); always = λ m. absurd (faulty_or_large bytes line what m (known.too_large what refl)) }
-  malformed (Err Spent) line known = record { only = λ e. absurd (cc); always = λ m. absurd (read_or_faulty bytes (known.past limits.Spent refl).net line (known.past limits.Spent refl).is_read m) }
-  malformed (Err Kept) line known = record { only = λ e. absurd (cc); always = λ m. absurd (read_or_faulty bytes (known.past limits.Kept refl).net line (known.past limits.Kept refl).is_read m) }
+  malformed (Err (TooLarge what)) line known = record { only = λ e. absurd (cc); always = λ m. absurd (faulty_or_large bytes line what m.1 (known.too_large what refl).1) }
+  malformed (Err Spent) line known = let past = (known.past limits.Spent refl).holds in record { only = λ e. absurd (cc); always = λ m. absurd (read_or_faulty bytes past.net line past.is_read m.1) }
+  malformed (Err Kept) line known = let past = (known.past limits.Kept refl).holds in record { only = λ e. absurd (cc); always = λ m. absurd (read_or_faulty bytes past.net line past.is_read m.1) }
   malformed (Err NoMemory) line known = record { only = λ e. absurd (cc); always = λ m. inr refl }
 
-  too_large : (result : Made) (what : What) → Known options bytes result → FaultsWhere (IsTooLarge bytes what) (TooLarge what) result
-  too_large (Ok text) what known = record { only = λ e. absurd (cc); always = λ l. absurd (read_or_large bytes known.reported.net what known.reported.is_read l) }
-  too_large (Err (BadInput told)) what known = record { only = λ e. absurd (cc); always = λ l. absurd (faulty_or_large bytes told what (known.malformed told refl) l) }
+  too_large : (result : Made) (what : What) → Is result → FaultsWhere (AreAccepted conditions × IsTooLarge bytes what) (TooLarge what) result
+  too_large (Ok text) what known = record { only = λ e. absurd (cc); always = λ l. absurd (read_or_large bytes known.reported.holds.net what known.reported.holds.is_read l.1) }
+  too_large (Err (BadTable why)) what known = record { only = λ e. absurd (cc); always = λ l. absurd (l.0 why ((known.bad_table why).only refl)) }
+  too_large (Err (BadInput told)) what known = record { only = λ e. absurd (cc); always = λ l. absurd (faulty_or_large bytes told what (known.malformed told refl).1 l.1) }
   too_large (Err (TooLarge told)) what known = record {
     only = known.too_large what;
-    always = λ l. inl (ap (λ (w : What). Err (TooLarge w)) (same_limit bytes told what (known.too_large told refl) l));
+    always = λ l. inl (ap (λ (w : What). Err (TooLarge w)) (same_limit bytes told what (known.too_large told refl).1 l.1));
   }
-  too_large (Err Spent) what known = record { only = λ e. absurd (cc); always = λ l. absurd (read_or_large bytes (known.past limits.Spent refl).net what (known.past limits.Spent refl).is_read l) }
-  too_large (Err Kept) what known = record { only = λ e. absurd (cc); always = λ l. absurd (read_or_large bytes (known.past limits.Kept refl).net what (known.past limits.Kept refl).is_read l) }
+  too_large (Err Spent) what known = let past = (known.past limits.Spent refl).holds in record { only = λ e. absurd (cc); always = λ l. absurd (read_or_large bytes past.net what past.is_read l.1) }
+  too_large (Err Kept) what known = let past = (known.past limits.Kept refl).holds in record { only = λ e. absurd (cc); always = λ l. absurd (read_or_large bytes past.net what past.is_read l.1) }
   too_large (Err NoMemory) what known = record { only = λ e. absurd (cc); always = λ l. inr refl }
 
   no_limit : (fault : RunFault) (limit : Limit) → fault ≢ Spent → fault ≢ Kept → ◌≡◌ {A = Made} (Err fault) (Err (fault_of_limit limit)) → ⊥
   no_limit fault limits.Spent s k e = s (cc)
   no_limit fault limits.Kept s k e = k (cc)
 
-  told_past : (fault : RunFault) (told limit : Limit) → fault ≡ fault_of_limit told → IsFlowPast options bytes told → IsFlowPast options bytes limit → ◌≡◌ {A = Made} (Err fault) (Err (fault_of_limit limit))
-  told_past fault told limit is p q = ap (λ (f : RunFault). Err f) (is ∙ ap fault_of_limit (one_limit options bytes told limit p q))
+  told_past : (fault : RunFault) (told limit : Limit) → fault ≡ fault_of_limit told → RunsPast options conditions bytes told → RunsPast options conditions bytes limit
+      → ◌≡◌ {A = Made} (Err fault) (Err (fault_of_limit limit))
+  told_past fault told limit is p q = ap (λ (f : RunFault). Err f) (is ∙ ap fault_of_limit (one_limit options conditions bytes told limit p q))
 
   -- the run ends, or a commit passes one limit first
-  passes : (result : Made) (limit : Limit) → Known options bytes result → FaultsWhere (IsFlowPast options bytes limit) (fault_of_limit limit) result
-  passes (Ok text) limit known = record { only = λ e. absurd (cc); always = λ p. absurd (ends_or_passes options bytes text.items limit known.reported p) }
+  passes : (result : Made) (limit : Limit) → Is result → FaultsWhere (RunsPast options conditions bytes limit) (fault_of_limit limit) result
+  passes (Ok text) limit known = record { only = λ e. absurd (cc); always = λ p. absurd (ends_or_passes options conditions bytes text.items limit known.reported p) }
+  passes (Err (BadTable why)) limit known = record {
+    only = λ e. absurd (no_limit (BadTable why) limit (λ f. cc) (λ f. cc) e);
+    always = λ p. absurd (accepted options.table conditions p.table p.is_table why ((known.bad_table why).only refl));
+  }
   passes (Err (BadInput told)) limit known = record {
     only = λ e. absurd (no_limit (BadInput told) limit (λ f. cc) (λ f. cc) e);
-    always = λ p. absurd (read_or_faulty bytes p.net told p.is_read (known.malformed told refl));
+    always = λ p. absurd (read_or_faulty bytes p.holds.net told p.holds.is_read (known.malformed told refl).1);
   }
   passes (Err (TooLarge what)) limit known = record {
     only = λ e. absurd (no_limit (TooLarge what) limit (λ f. cc) (λ f. cc) e);
-    always = λ p. absurd (read_or_large bytes p.net what p.is_read (known.too_large what refl));
+    always = λ p. absurd (read_or_large bytes p.holds.net what p.holds.is_read (known.too_large what refl).1);
   }
   passes (Err Spent) limit known = record { only = known.past limit; always = λ p. inl (told_past Spent limits.Spent limit refl (known.past limits.Spent refl) p) }
   passes (Err Kept) limit known = record { only = known.past limit; always = λ p. inl (told_past Kept limits.Kept limit refl (known.past limits.Kept refl) p) }
   passes (Err NoMemory) limit known = record { only = λ e. absurd (no_limit NoMemory limit (λ f. cc) (λ f. cc) e); always = λ p. inr refl }
 
-pub flow_answers : (options : RunOptions) (inputs : Inputs) (bytes : List ℕ) (result : Made) → bytes ≡ main_of inputs
-    → IfOk result (λ text. IsFlowReport options bytes text.items) → ((line : ℕ) → result ≡ Err (BadInput line) → IsFaultyFlow bytes line)
-    → ((what : What) → result ≡ Err (TooLarge what) → IsTooLarge bytes what) → ((limit : Limit) → result ≡ Err (fault_of_limit limit) → IsFlowPast options bytes limit)
+answers_of : (options : RunOptions) (inputs : Inputs) (result : Made) → Known options inputs.conditions (main_of inputs) result → Answers (flow_meaning options) inputs result
+answers_of options inputs result known = record {
+  reported = known.reported;
+  bad_table = known.bad_table;
+  malformed = λ line. malformed options inputs.conditions (main_of inputs) result line known;
+  too_large = λ what. too_large options inputs.conditions (main_of inputs) result what known;
+  passes = λ limit. passes options inputs.conditions (main_of inputs) result limit known;
+}
+
+pub flow_answers : (options : RunOptions) (inputs : Inputs) (conditions : Option (List ℕ)) (bytes : List ℕ) (result : Made) → conditions ≡ inputs.conditions → bytes ≡ main_of inputs
+    → IfOk result (λ text. UnderRunTable options.table conditions (λ table. IsFlowReport options table bytes text.items))
+    → ((why : TableFault) → FaultsWhere (IsBadTable conditions why) (BadTable why) result)
+    → ((line : ℕ) → result ≡ Err (BadInput line) → AreAccepted conditions × IsFaultyFlow bytes line)
+    → ((what : What) → result ≡ Err (TooLarge what) → AreAccepted conditions × IsTooLarge bytes what)
+    → ((limit : Limit) → result ≡ Err (fault_of_limit limit) → UnderRunTable options.table conditions (λ table. IsFlowPast options table bytes limit))
     → Answers (flow_meaning options) inputs result
-flow_answers options inputs bytes result e reported faulty large past = by_main (subst (λ (file : List ℕ). Known options file result) e (record { reported = reported; malformed = faulty; too_large = large; past = past }))
-  where
-    by_main : Known options (main_of inputs) result → Answers (flow_meaning options) inputs result
-    by_main known = record {
-      reported = known.reported;
-      malformed = λ line. malformed options (main_of inputs) result line known;
-      too_large = λ what. too_large options (main_of inputs) result what known;
-      passes = λ limit. passes options (main_of inputs) result limit known;
-    }
+flow_answers options inputs conditions bytes result c e reported bad faulty large past =
+    answers_of options inputs result
+    (subst (λ (file : List ℕ). Known options inputs.conditions file result) e
+    (subst (λ (given : Option (List ℕ)). Known options given bytes result) c (record { reported = reported; bad_table = bad; malformed = faulty; too_large = large; past = past })))
+
+-- ---- under the table of the run
+
+-- what is made under an accepted table
+pub under_table : (options : RunOptions) (conditions : Option (List ℕ)) (table : RowMap) (bytes : List ℕ) (made : Made) → IsRunTable options.table conditions table
+    → IfOk made (λ text. IsFlowReport options table bytes text.items) → IfOk made (λ text. UnderRunTable options.table conditions (λ t. IsFlowReport options t bytes text.items))
+under_table options conditions table bytes (Ok text) is report = record { table = table; is_table = is; holds = report }
+under_table options conditions table bytes (Err fault) is report = tt
+
+-- no table is refused where this one is accepted
+pub not_refused : (choice : Choice) (conditions : Option (List ℕ)) (table : RowMap) (made : Made) (why : TableFault) → IsRunTable choice conditions table → (made ≡ Err (BadTable why) → ⊥)
+    → FaultsWhere (IsBadTable conditions why) (BadTable why) made
+not_refused choice conditions table made why is never = record { only = λ e. absurd (never e); always = λ bad. absurd (accepted choice conditions table is why bad) }
 
 -- ---- from the reader
 
@@ -171,6 +206,14 @@ unfolding err_made
 not_past refused fault made limit is made_is same = past_by refused limit (sym is ∙ same_fault fault (fault_of_limit limit) (sym made_is ∙ same))
 
 -- the report of a network that was read is that of its file
-pub is_reported : (options : RunOptions) (bytes : List ℕ) (net : Net) (made : Made) → IsReadable bytes net → IfOk made (λ text. IsReportOf options net text.items) → IfOk made (λ text. IsFlowReport options bytes text.items)
-is_reported options bytes net (Ok text) read report = record { net = net; is_read = read; is_report = report }
-is_reported options bytes net (Err fault) read report = tt
+pub is_reported : (options : RunOptions) (table : RowMap) (bytes : List ℕ) (net : Net) (made : Made) → IsReadable bytes net → IfOk made (λ text. IsReportOf options table net text.items)
+    → IfOk made (λ text. IsFlowReport options table bytes text.items)
+is_reported options table bytes net (Ok text) read report = record { net = net; is_read = read; is_report = report }
+is_reported options table bytes net (Err fault) read report = tt
+
+-- a fault of the file is none of a table
+pub no_table : (refused : InputFault) (fault : RunFault) (made : Made) (why : TableFault) → fault ≡ fault_of_input refused → made ≡ Err fault → made ≡ Err (BadTable why) → ⊥
+unfolding err_made
+no_table (inputs.Line k) fault made why is made_is same = let e : BadInput k ≡ BadTable why = sym is ∙ same_fault fault (BadTable why) (sym made_is ∙ same) in cc
+no_table (inputs.Large w) fault made why is made_is same = let e : TooLarge w ≡ BadTable why = sym is ∙ same_fault fault (BadTable why) (sym made_is ∙ same) in cc
+no_table inputs.NoMemory fault made why is made_is same = let e : NoMemory ≡ BadTable why = sym is ∙ same_fault fault (BadTable why) (sym made_is ∙ same) in cc

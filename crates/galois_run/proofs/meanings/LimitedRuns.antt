@@ -1,6 +1,6 @@
 -- A run passes one limit first, whatever number of turns is looked at, or none.
-use Rattle.std.specs.Prelude.{◌≡◌, ℕ, zero, suc, Bool, true, false, if◌then◌else◌, Option, Some, None, List, refl}
-use Rattle.std.proofs.Common.{sym, ◌∙◌, ap, subst}
+use Rattle.std.specs.Prelude.{◌≡◌, ℕ, zero, suc, Bool, true, false, if◌then◌else◌, Option, Some, None, List}
+use Rattle.std.proofs.Common.{sym, ◌∙◌, ap}
 use Rattle.gx_base.specs.Plans.{Operator}
 use Rattle.speculation.specs.Machines.{Machine, turn}
 use Rattle.speculation.specs.ScheduledRuns.{is_empty, begun, alone, drained, played}

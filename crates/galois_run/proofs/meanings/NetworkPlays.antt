@@ -1,15 +1,9 @@
 -- The run of a network over its rooms is the network's run by its schedule.
-use Rattle.std.proofs.Common.{◌≡◌, ℕ, zero, suc, ◌<◌, ◌≤◌, true, false, Option, Some, None, List, [], ◌∷◌, length, slice_get, slice_index_or, refl, sym, ap, subst, ◌∙◌, arith}
+use Rattle.std.proofs.Common.{◌≡◌, ℕ, suc, ◌<◌, false, Option, List, [], ◌∷◌, slice_get, refl, sym, ap, subst, ◌∙◌, arith}
 use Rattle.std.specs.List.{All}
 use Rattle.gx_base.specs.declared.items.Item.{Item}
-use Rattle.gx_base.specs.declared.kinds.Kind.TheVariants.{Flow}
-use Rattle.gx_base.specs.declared.kinds.Choice.TheVariants.{Precise}
-use Rattle.gx_base.specs.Kinds.{kind_number}
 use Rattle.gx_base.specs.Plans.{Plan, Operator}
-use Rattle.gx_base.specs.ShippedTables.{IsShipped}
-use Rattle.gx_base.specs.TableRows.{RowMap, row_of}
-use Rattle.kind_tables.specs.TablesOfKinds.{tables_of, shipped_rows}
-use Rattle.kind_tables.proofs.CallerLemmas.{tables_of-SuitKind}
+use Rattle.gx_base.specs.TableRows.{RowMap}
 use Rattle.commit_book.specs.BookViews.{new_book}
 use Rattle.speculation.specs.Events.{Turn}
 use Rattle.speculation.specs.Limits.{Limit}
@@ -31,35 +25,27 @@ use Rattle.preflow_push.specs.Starts.{start_ready}
 use Rattle.galois_run.specs.declared.options.RunOptions.{RunOptions}
 use Rattle.galois_run.specs.NetworkRuns.{AreRoomsOf, IsNetworkPlayed}
 use Rattle.galois_run.specs.RunFaults.{fault_of_stop, fault_of_limit}
-use Rattle.galois_run.specs.commands.Flow.{IsRunPast, IsRunTable, network_machine}
-use Rattle.galois_run.proofs.gate_tables.TableGets.{row_of_whole}
+use Rattle.galois_run.specs.commands.Flow.{IsRunPast, network_machine}
 use Rattle.galois_run.proofs.meanings.NetworkRooms.{begun_is, are_new, empty_past}
-
--- ---- the table
-
--- a copy of the table of a run is one that flow shards ship
-pub is_shipped : (table copy : RowMap) → copy ≡ table → IsRunTable table → IsShipped true (tables_of Flow) Precise copy
-is_shipped table copy same is m n =
-    ap (λ (t : RowMap). row_of t m n) same ∙ ap (λ rows. rows m n) (row_of_whole (kind_number Flow) (shipped_rows Flow Precise) table ((tables_of-SuitKind Flow).keeps_to_kind Precise) is)
 
 -- ---- the rooms
 
-module _ {T S : Type 0} where
+module _ {T S : Type 0} (table : RowMap) where
   told_is : (made : Visits (Value T S)) → made.moves ≡ [] → (view_of tells made).told ≡ (λ room. slice_get made.values room)
   told_is made e = ap (λ moves. (after_moves tells moves (first_view tells made.values)).told) e
 
-  pub is_free : (net : Net) (made : Visits (Value T S)) → AreRoomsOf net made → (room : ℕ) → is_held (view_of tells made) room ≡ false
+  pub is_free : (net : Net) (made : Visits (Value T S)) → AreRoomsOf table net made → (room : ℕ) → is_held (view_of tells made) room ≡ false
   is_free net made are room = ap (λ moves. is_held (after_moves tells moves (first_view tells made.values)) room) are.unmoved
 
-  pub is_new : (net : Net) (made : Visits (Value T S)) (op : Operator) → op.ordered ≡ false → op.rooms ≡ rooms → AreRoomsOf net made → AreNewFor op (view_of tells made).told
+  pub is_new : (net : Net) (made : Visits (Value T S)) (op : Operator) → op.ordered ≡ false → op.rooms ≡ rooms → AreRoomsOf table net made → AreNewFor op (view_of tells made).told
   is_new net made op unordered count are =
-      let new = are_new T S are.table (new_book false (start_ready net)) op are.states unordered count refl refl refl are.count in
+      let new = are_new T S table (new_book false (start_ready net)) op are.states unordered count refl refl refl are.count in
       subst (λ (told : ℕ → Option (Value T S)). AreNewFor op told) (sym (told_is made are.unmoved ∙ ap (λ (values : List (Value T S)). λ room. slice_get values room) are.values)) new
 
-  pub machine_is : (net : Net) (made : Visits (Value T S)) (are : AreRoomsOf net made) → begun_machine rooms (view_of tells made).told ≡ network_machine net are.table
+  pub machine_is : (net : Net) (made : Visits (Value T S)) (are : AreRoomsOf table net made) → begun_machine rooms (view_of tells made).told ≡ network_machine net table
   machine_is net made are =
       ap (λ (told : ℕ → Option (Value T S)). begun_machine rooms told) (told_is made are.unmoved ∙ ap (λ (values : List (Value T S)). λ room. slice_get values room) are.values)
-      ∙ begun_is T S are.table (new_book false (start_ready net)) net are.states refl are.count are.are_first
+      ∙ begun_is T S table (new_book false (start_ready net)) net are.states refl are.count are.are_first
 
 -- ---- the schedule
 
@@ -82,14 +68,12 @@ along P net table options plan m schedule p e s fact =
     (subst (λ (x : Machine). P (discharge_operator net) x schedule) e
     (subst (λ (x : Item → Plan). P (operator_by x) m schedule) p fact))
 
-pub is_played : {T S : Type 0} (options : RunOptions) (net : Net) (made : Visits (Value T S)) (plan : Item → Plan) (schedule : List ℕ) (trace : List Turn) (values : ℕ → Option (Value T S))
-    → plan ≡ discharge_plan net → schedule ≡ schedule_of options.seed options.workers options.turns → AreRoomsOf net made
-    → IsPlayed (operator_by plan) (begun_machine rooms (view_of tells made).told) options.workers schedule trace values → IsNetworkPlayed options net trace values
-is_played options net made plan schedule trace values p s are known = record {
-  table = are.table;
-  is_table = are.is_table;
+pub is_played : {T S : Type 0} (options : RunOptions) (table : RowMap) (net : Net) (made : Visits (Value T S)) (plan : Item → Plan) (schedule : List ℕ) (trace : List Turn) (values : ℕ → Option (Value T S))
+    → plan ≡ discharge_plan net → schedule ≡ schedule_of options.seed options.workers options.turns → AreRoomsOf table net made
+    → IsPlayed (operator_by plan) (begun_machine rooms (view_of tells made).told) options.workers schedule trace values → IsNetworkPlayed options table net trace values
+is_played options table net made plan schedule trace values p s are known = record {
   empty_past = empty_past net are.states are.count are.are_first;
-  is_played = along (λ op m turns. IsPlayed op m options.workers turns trace values) net are.table options plan _ schedule p (machine_is net made are) s known;
+  is_played = along (λ op m turns. IsPlayed op m options.workers turns trace values) net table options plan _ schedule p (machine_is table net made are) s known;
 }
 
 -- the fault of a stop tells the limit
@@ -101,10 +85,10 @@ limit_told stops.Kept limit.Kept e = refl
 limit_told stops.NoMemory limit.Spent e = absurd (cc)
 limit_told stops.NoMemory limit.Kept e = absurd (cc)
 
-pub is_past : {T S : Type 0} (options : RunOptions) (net : Net) (made : Visits (Value T S)) (plan : Item → Plan) (schedule : List ℕ) (stop : Stop) (passed : Limit)
-    → plan ≡ discharge_plan net → schedule ≡ schedule_of options.seed options.workers options.turns → AreRoomsOf net made
+pub is_past : {T S : Type 0} (options : RunOptions) (table : RowMap) (net : Net) (made : Visits (Value T S)) (plan : Item → Plan) (schedule : List ℕ) (stop : Stop) (passed : Limit)
+    → plan ≡ discharge_plan net → schedule ≡ schedule_of options.seed options.workers options.turns → AreRoomsOf table net made
     → ((other : Limit) → stop ≡ stop_of other → PassesFirst (operator_by plan) (begun_machine rooms (view_of tells made).told) options.workers schedule other)
-    → fault_of_stop stop ≡ fault_of_limit passed → IsRunPast options net passed
-is_past options net made plan schedule stop passed p s are known told =
-    let first = along (λ op m turns. PassesFirst op m options.workers turns passed) net are.table options plan _ schedule p (machine_is net made are) s (known passed (limit_told stop passed told)) in
-    record { table = are.table; is_table = are.is_table; turns = first.0; passes = first.1 }
+    → fault_of_stop stop ≡ fault_of_limit passed → IsRunPast options table net passed
+is_past options table net made plan schedule stop passed p s are known told =
+    let first = along (λ op m turns. PassesFirst op m options.workers turns passed) net table options plan _ schedule p (machine_is table net made are) s (known passed (limit_told stop passed told)) in
+    record { turns = first.0; passes = first.1 }

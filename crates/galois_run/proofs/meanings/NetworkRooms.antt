@@ -1,11 +1,11 @@
 -- The rooms of a network's run: the machine that they are before it, and the report of what they are after it.
-use Rattle.std.proofs.Common.{◌≡◌, ◌⊎◌, inl, inr, ℕ, zero, suc, ◌+◌, ◌<◌, ◌≤◌, ◌^◌, Bool, true, false, if◌then◌else◌, nat_lt, Option, Some, None, List, [], ◌∷◌, ◌++◌, length, map, slice_get, slice_index_or, refl, sym, ap, subst, ◌∙◌, arith}
+use Rattle.std.proofs.Common.{◌≡◌, ◌⊎◌, inl, inr, ℕ, zero, suc, ◌<◌, ◌≤◌, Bool, true, false, if◌then◌else◌, nat_lt, Some, None, List, [], ◌∷◌, ◌++◌, length, map, slice_get, refl, sym, ap, subst, ◌∙◌, arith}
 use Rattle.std.proofs.lemmas.Bool.{ltb-true, ltb-false, cases_lt}
 use Rattle.std.proofs.lemmas.List.{get_or_past, append-nil, map-append}
 use Rattle.gx_base.specs.declared.acts.Commit.{Commit}
 use Rattle.gx_base.specs.declared.items.Item.{Item}
 use Rattle.gx_base.specs.Outcomes.{WholeCommit, order_of, outcomes_of}
-use Rattle.gx_base.specs.Plans.{Plan, Operator}
+use Rattle.gx_base.specs.Plans.{Operator}
 use Rattle.gx_base.specs.Replays.{in_rooms, no_state}
 use Rattle.gx_base.specs.SerialRuns.{IsSerialRun, all_counted}
 use Rattle.gx_base.specs.States.{State}
@@ -15,27 +15,25 @@ use Rattle.gate_core.specs.Views.{GateView}
 use Rattle.commit_book.specs.BookViews.{BookView, new_book}
 use Rattle.commit_book.specs.Commits.{items_of}
 use Rattle.speculation.specs.Events.{Turn}
-use Rattle.speculation.specs.Limits.{Limit}
 use Rattle.speculation.specs.Machines.{Machine}
 use Rattle.speculation.specs.RunResults.{object_states, end_in}
-use Rattle.speculation.specs.ScheduledRuns.{is_empty, Run, played, AllBelow}
-use Rattle.schedules.specs.Draws.{schedule_of}
+use Rattle.speculation.specs.ScheduledRuns.{is_empty, Run}
 use Rattle.rooms.specs.Values.{tells}
 use Rattle.rooms.specs.Visits.{Visits, AreGatesAndBook}
 use Rattle.rooms.specs.declared.values.Value.{Value}
 use Rattle.rooms.specs.declared.values.Value.TheVariants.{Object, Book}
 use Rattle.iterate.specs.Places.{no_gate}
-use Rattle.iterate.specs.Plays.{AreNewFor, IsPlayed, begun_machine, gate_in, book_in}
+use Rattle.iterate.specs.Plays.{AreNewFor, begun_machine, gate_in, book_in}
 use Rattle.iterate.specs.SessionViews.{begun_view}
 use Rattle.traces.specs.Traces.{trace_text}
 use Rattle.preflow_push.specs.FlowCalls.{rooms}
 use Rattle.preflow_push.specs.FlowReports.{flow_report}
 use Rattle.preflow_push.specs.Networks.{Net}
-use Rattle.preflow_push.specs.Discharge.{discharge_operator, discharge_plan}
+use Rattle.preflow_push.specs.Discharge.{discharge_operator}
 use Rattle.preflow_push.specs.Starts.{start_states, start_ready}
 use Rattle.galois_run.specs.declared.options.RunOptions.{RunOptions}
 use Rattle.galois_run.specs.NetworkRuns.{AreRoomsOf, gates_over, IsNetworkPlayed, states_in, last_book}
-use Rattle.galois_run.specs.commands.Flow.{IsReportOf, IsRunTable, network_machine, new_gate, run_of}
+use Rattle.galois_run.specs.commands.Flow.{IsReportOf, network_machine, new_gate, run_of}
 
 module _ (T S : Type 0) (table : RowMap) (book : BookView) where
   -- ---- the values at the start
@@ -106,11 +104,9 @@ module _ (T S : Type 0) (table : RowMap) (book : BookView) where
   gates_and_book (s ∷ []) = (refl, omega arith, refl)
   gates_and_book (s ∷ t ∷ states) = (refl, omega arith, gates_and_book (t ∷ states))
 
-  pub rooms_made : (net : Net) (states : List State) (made : Visits (Value T S)) (gates values : List (Value T S)) → IsRunTable table → length states ≡ rooms → in_rooms states ≡ start_states net
-      → book ≡ new_book false (start_ready net) → gates ≡ gates_over table states → values ≡ gates ++ Book book ∷ [] → made ≡ record { values = values; moves = [] } → AreRoomsOf net made
-  rooms_made net states made gates values is n are b g v m = record {
-    table = table;
-    is_table = is;
+  pub rooms_made : (net : Net) (states : List State) (made : Visits (Value T S)) (gates values : List (Value T S)) → length states ≡ rooms → in_rooms states ≡ start_states net
+      → book ≡ new_book false (start_ready net) → gates ≡ gates_over table states → values ≡ gates ++ Book book ∷ [] → made ≡ record { values = values; moves = [] } → AreRoomsOf table net made
+  rooms_made net states made gates values n are b g v m = record {
     states = states;
     count = n;
     are_first = are;
@@ -220,12 +216,12 @@ serial_from net table m past none serial =
     (none_ready m.book.ready none) serial)
 
 -- the report of a run of the network
-pub is_report : {T S : Type 0} (options : RunOptions) (net : Net) (trace : List Turn) (values : List (Value T S)) (order : List Commit) (states : List State) (lines text : List ℕ)
-    → IsNetworkPlayed options net trace (slice_get values) → states ≡ states_in values → order ≡ all_counted (last_book (new_book false []) values).commits
-    → lines ≡ flow_report net (items_of order) (in_rooms states) → text ≡ lines ++ trace_text (record { turns = options.trace; told = options.told }) trace → IsReportOf options net text
-is_report options net trace values order states lines text known s o l t =
+pub is_report : {T S : Type 0} (options : RunOptions) (table : RowMap) (net : Net) (trace : List Turn) (values : List (Value T S)) (order : List Commit) (states : List State) (lines text : List ℕ)
+    → IsNetworkPlayed options table net trace (slice_get values) → states ≡ states_in values → order ≡ all_counted (last_book (new_book false []) values).commits
+    → lines ≡ flow_report net (items_of order) (in_rooms states) → text ≡ lines ++ trace_text (record { turns = options.trace; told = options.told }) trace → IsReportOf options table net text
+is_report options table net trace values order states lines text known s o l t =
     let p = known.is_played in
-    let run : Run = run_of options net known.table p.turns in
+    let run : Run = run_of options net table p.turns in
     let m : Machine = run.machine in
     let commits : List WholeCommit = m.book.commits in
     let parts = taken values rooms m.gates m.book (new_book false []) p.gates p.book p.no_more in
@@ -235,9 +231,9 @@ is_report options net trace values order states lines text known s o l t =
     record {
       commits = commits;
       after = object_states m;
-      serial = serial_from net known.table m known.empty_past p.ends (p.serial.whole p.ends);
+      serial = serial_from net table m known.empty_past p.ends (p.serial.whole p.ends);
       run = run;
-      is_run = record { table = known.table; is_table = known.is_table; turns = p.turns; is_run = refl; ends = none_ready m.book.ready p.ends; unlimited = p.unlimited };
+      is_run = record { turns = p.turns; is_run = refl; ends = none_ready m.book.ready p.ends; unlimited = p.unlimited };
       in_order = refl;
       is_report =
           t ∙ ap (λ (x : List ℕ). x ++ told trace) (l ∙ ap (λ (is : List Item). flow_report net is (in_rooms states)) items ∙ ap (λ (f : ℕ → State). flow_report net (order_of commits) f) ends)

@@ -6,8 +6,9 @@ use Rattle.gx_base.specs.declared.inputs.What.TheVariants.{File, Nodes, Arcs, Po
 use Rattle.preflow_push.specs.Networks.{Net}
 use Rattle.preflow_push.specs.FlowLimits.{Passes}
 use Rattle.galois_run.specs.declared.run_faults.RunFault.{RunFault}
-use Rattle.galois_run.specs.declared.run_faults.RunFault.TheVariants.{BadInput, TooLarge, Spent, Kept, NoMemory}
+use Rattle.galois_run.specs.declared.run_faults.RunFault.TheVariants.{BadTable, BadInput, TooLarge, Spent, Kept, NoMemory}
 use Rattle.galois_run.specs.declared.status.Status.{Status}
+use Rattle.galois_run.specs.declared.status.TableFault.{TableFault}
 use Rattle.galois_run.specs.declared.status.Status.TheVariants as statuses
 use Rattle.galois_run.specs.declared.words.Command.{Command}
 use Rattle.galois_run.specs.declared.words.Command.TheVariants.{Flow, Classify, Help, Version}
@@ -24,6 +25,7 @@ use Rattle.galois_run.specs.RunFaults.{fault_of_limit, status_of_fault, FaultsWh
 use Rattle.galois_run.specs.RunTurns.{ComesWhere, PassesLimit, status_of_limit, IsCaused, IsAnswer, Completes, writes}
 use Rattle.galois_run.proofs.meanings.FlowAnswers.{read_or_faulty, read_or_large}
 use Rattle.galois_run.proofs.meanings.FlowRuns.{stays_or_passes}
+use Rattle.galois_run.proofs.meanings.RunTables.{fault_is_told}
 
 -- ---- where a report is made, there is no cause for a refusal
 
@@ -57,6 +59,7 @@ not_write_fault limits.Kept e = cc
 report_caused : (command : Command) (options : RunOptions) (inputs : Inputs) (text : Vec ℕ Global) → AreWithin inputs → Answers (meaning_by command options) inputs (Ok text) → IsCaused (meaning_by command options) inputs statuses.Ok
 report_caused command options inputs text within answers = record {
   too_large = λ what. never _ _ (λ e. cc) (not_too_large (meaning_by command options) inputs what within (no_fault _ text (answers.too_large what)));
+  bad_table = λ why. never _ _ (λ e. cc) (λ m. no_fault _ text (answers.bad_table why) m.1);
   bad_input = λ line. never _ _ (λ e. cc) (λ m. no_fault _ text (answers.malformed line) m.1);
   past = λ limit. never _ _ (not_ok limit) (λ m. no_fault (fault_of_limit limit) text (answers.passes limit) m.1);
 }
@@ -73,26 +76,37 @@ report_by_held command options held read text same within answers = at_inputs he
 -- ---- where none is made, there is a cause for the refusal
 
 same_fault : (told fault : RunFault) → status_of_fault told ≡ status_of_fault fault → told ≡ fault
+same_fault (BadTable v) (BadTable why) e = ap BadTable (let same : v ≡ why = cc in same)
+same_fault (BadTable v) (BadInput line) e = absurd (cc)
+same_fault (BadTable v) (TooLarge what) e = absurd (cc)
+same_fault (BadTable v) Spent e = absurd (cc)
+same_fault (BadTable v) Kept e = absurd (cc)
+same_fault (BadTable v) NoMemory e = absurd (cc)
+same_fault (BadInput k) (BadTable why) e = absurd (cc)
 same_fault (BadInput k) (BadInput line) e = ap BadInput (let same : k ≡ line = cc in same)
 same_fault (BadInput k) (TooLarge what) e = absurd (cc)
 same_fault (BadInput k) Spent e = absurd (cc)
 same_fault (BadInput k) Kept e = absurd (cc)
 same_fault (BadInput k) NoMemory e = absurd (cc)
+same_fault (TooLarge w) (BadTable why) e = absurd (cc)
 same_fault (TooLarge w) (BadInput line) e = absurd (cc)
 same_fault (TooLarge w) (TooLarge what) e = ap TooLarge (let same : w ≡ what = cc in same)
 same_fault (TooLarge w) Spent e = absurd (cc)
 same_fault (TooLarge w) Kept e = absurd (cc)
 same_fault (TooLarge w) NoMemory e = absurd (cc)
+same_fault Spent (BadTable why) e = absurd (cc)
 same_fault Spent (BadInput line) e = absurd (cc)
 same_fault Spent (TooLarge what) e = absurd (cc)
 same_fault Spent Spent e = refl
 same_fault Spent Kept e = absurd (cc)
 same_fault Spent NoMemory e = absurd (cc)
+same_fault Kept (BadTable why) e = absurd (cc)
 same_fault Kept (BadInput line) e = absurd (cc)
 same_fault Kept (TooLarge what) e = absurd (cc)
 same_fault Kept Spent e = absurd (cc)
 same_fault Kept Kept e = refl
 same_fault Kept NoMemory e = absurd (cc)
+same_fault NoMemory (BadTable why) e = absurd (cc)
 same_fault NoMemory (BadInput line) e = absurd (cc)
 same_fault NoMemory (TooLarge what) e = absurd (cc)
 same_fault NoMemory Spent e = absurd (cc)
@@ -123,6 +137,7 @@ refusal_past meaning inputs told result limits.Kept is within exact = comes told
 refusal_caused : (command : Command) (options : RunOptions) (inputs : Inputs) (told : RunFault) (result : Result (Vec ℕ Global) RunFault) → result ≡ Err told → AreWithin inputs → Answers (meaning_by command options) inputs result → IsCaused (meaning_by command options) inputs (status_of_fault told)
 refusal_caused command options inputs told result is within answers = record {
   too_large = λ what. comes told (TooLarge what) result is (past_limit (meaning_by command options) inputs what within) (λ l. inr (within, l)) (answers.too_large what);
+  bad_table = λ why. comes told (BadTable why) result is (λ m. m.1) (λ m. (within, m)) (answers.bad_table why);
   bad_input = λ line. comes told (BadInput line) result is (λ m. m.1) (λ m. (within, m)) (answers.malformed line);
   past = λ limit. refusal_past (meaning_by command options) inputs told result limit is within (answers.passes limit);
 }
@@ -139,6 +154,7 @@ no_cause is other comes h = elim (comes.always h) [ inl e ↦ absurd (other e) |
 cut_caused : (meaning : CommandMeaning) (inputs : Inputs) → IsCaused meaning inputs statuses.Ok → IsCaused meaning inputs statuses.WriteFault
 cut_caused meaning inputs caused = record {
   too_large = λ what. never _ _ (λ e. cc) (no_cause _ (λ e. cc) (caused.too_large what));
+  bad_table = λ why. never _ _ (λ e. cc) (no_cause _ (λ e. cc) (caused.bad_table why));
   bad_input = λ line. never _ _ (λ e. cc) (no_cause _ (λ e. cc) (caused.bad_input line));
   past = λ limit. never _ _ (not_write_fault limit) (no_cause _ (not_ok limit) (caused.past limit));
 }
@@ -171,14 +187,20 @@ passed_limit net Nets p = absurd p
 passed_limit net Horizon p = absurd p
 passed_limit net Size p = absurd p
 
+fault_of_conditions : (command : Command) (options : RunOptions) (inputs : Inputs) (why : TableFault) → (meaning_by command options).bad_table inputs why → (meaning_by command options).faults why
+fault_of_conditions Flow options inputs why bad = fault_is_told inputs.conditions why bad
+fault_of_conditions Classify options inputs why bad = bad
+fault_of_conditions Help options inputs why bad = bad
+fault_of_conditions Version options inputs why bad = bad
+
 line_told : (command : Command) (options : RunOptions) (inputs : Inputs) (line : ℕ) → (meaning_by command options).malformed inputs line → (meaning_by command options).lines line
-line_told Flow options inputs line m = m.from_one
+line_told Flow options inputs line m = m.1.from_one
 line_told Classify options inputs line m = m.is_first.from_one
 line_told Help options inputs line m = m
 line_told Version options inputs line m = m
 
 limit_told : (command : Command) (options : RunOptions) (inputs : Inputs) (what : What) → (meaning_by command options).too_large inputs what → (meaning_by command options).limits what
-limit_told Flow options inputs what l = passed_limit l.net what l.passes
+limit_told Flow options inputs what l = passed_limit l.1.net what l.1.passes
 limit_told Classify options inputs what l = absurd l
 limit_told Help options inputs what l = l
 limit_told Version options inputs what l = l
@@ -190,6 +212,7 @@ run_on_told Help options inputs limit p = p
 run_on_told Version options inputs limit p = p
 
 pub fault_told : (command : Command) (options : RunOptions) (inputs : Inputs) (fault : RunFault) → Answers (meaning_by command options) inputs (Err fault) → IsAnswer (meaning_by command options) (status_of_fault fault)
+fault_told command options inputs (BadTable why) answers = fault_of_conditions command options inputs why ((answers.bad_table why).only refl)
 fault_told command options inputs (BadInput line) answers = line_told command options inputs line ((answers.malformed line).only refl)
 fault_told command options inputs (TooLarge what) answers = inr (limit_told command options inputs what ((answers.too_large what).only refl))
 fault_told command options inputs Spent answers = run_on_told command options inputs limits.Spent ((answers.passes limits.Spent).only refl)
@@ -198,20 +221,26 @@ fault_told command options inputs NoMemory answers = tt
 
 -- ---- where nothing is wrong with the inputs, none of these is told
 
+no_bad_table : (command : Command) (options : RunOptions) (inputs : Inputs) (why : TableFault) → (meaning_by command options).ends inputs → (meaning_by command options).bad_table inputs why → ⊥
+no_bad_table Flow options inputs why e bad = e.are_accepted why bad
+no_bad_table Classify options inputs why e bad = bad
+no_bad_table Help options inputs why e bad = bad
+no_bad_table Version options inputs why e bad = bad
+
 no_line : (command : Command) (options : RunOptions) (inputs : Inputs) (line : ℕ) → (meaning_by command options).ends inputs → (meaning_by command options).malformed inputs line → ⊥
-no_line Flow options inputs line e m = read_or_faulty _ e.net line e.is_read m
+no_line Flow options inputs line e m = read_or_faulty _ e.net line e.is_read m.1
 no_line Classify options inputs line e m = no_fault_of_a_table all_kinds _ e.kind e.rows line m.fault e.is_table m.is_first
 no_line Help options inputs line e m = m
 no_line Version options inputs line e m = m
 
 no_large : (command : Command) (options : RunOptions) (inputs : Inputs) (what : What) → (meaning_by command options).ends inputs → (meaning_by command options).too_large inputs what → ⊥
-no_large Flow options inputs what e l = read_or_large _ e.net what e.is_read l
+no_large Flow options inputs what e l = read_or_large _ e.net what e.is_read l.1
 no_large Classify options inputs what e l = l
 no_large Help options inputs what e l = l
 no_large Version options inputs what e l = l
 
 no_past : (command : Command) (options : RunOptions) (inputs : Inputs) (limit : Limit) → (meaning_by command options).ends inputs → (meaning_by command options).passes inputs limit → ⊥
-no_past Flow options inputs limit e p = stays_or_passes options _ limit e p
+no_past Flow options inputs limit e p = stays_or_passes options inputs.conditions _ limit e p
 no_past Classify options inputs limit e p = p
 no_past Help options inputs limit e p = p
 no_past Version options inputs limit e p = p
@@ -228,7 +257,7 @@ completes command options inputs (statuses.TooLarge what) u caused answer w e =
     absurd (not_too_large (meaning_by command options) inputs what w (λ l. no_large command options inputs what e l) ((caused.too_large what).only refl))
 completes command options inputs statuses.Spent u caused answer w e = absurd (no_past command options inputs limits.Spent e ((caused.past limits.Spent).only refl).1)
 completes command options inputs statuses.Kept u caused answer w e = absurd (no_past command options inputs limits.Kept e ((caused.past limits.Kept).only refl).1)
-completes command options inputs (statuses.BadTable why) u caused answer w e = absurd answer
+completes command options inputs (statuses.BadTable why) u caused answer w e = absurd (no_bad_table command options inputs why e ((caused.bad_table why).only refl).1)
 
 pub completes_by_held : (command : Command) (options : RunOptions) (held : Option Inputs) (status : Status) → status ≢ statuses.Usage → IfSome held (λ inputs. IsCaused (meaning_by command options) inputs status)
     → IsAnswer (meaning_by command options) status → IfSome held (λ inputs. Completes (meaning_by command options) inputs status)

@@ -24,6 +24,10 @@ help_lines =
     ∷ codes "  --seed N        the seed of the schedule, 1 to 18 digits; default 0"
     ∷ codes "  --trace on      write a line for each scheduled turn; default off"
     ∷ codes "  --told on       write a line for each conflict; default off"
+    ∷ codes "  --table NAME    the table under which calls conflict: precise, simple, rw or global;"
+    ∷ codes "                  default precise"
+    ∷ codes "  --conditions F  the user's own table in the file F, in place of --table; it has to be"
+    ∷ codes "                  below the precise one"
     ∷ codes ""
     ∷ codes "Statuses, each with its line on standard error:"
     ∷ codes "  0   the output was written whole"
@@ -41,6 +45,9 @@ help_lines =
     ∷ codes "      4194304 items have committed, and another would"
     ∷ codes "  8   galois: kept"
     ∷ codes "      with one more commit more than 8388608 calls would have committed"
+    ∷ codes "  9   galois: conditions: line N, or galois: conditions: M1 M2"
+    ∷ codes "      the file of conditions is at fault on line N, or its row of the methods M1 and"
+    ∷ codes "      M2 isn't below the precise one"
     ∷ codes ""
     ∷ codes "Examples:"
     ∷ codes "  galois flow examples/four-nodes.max"
@@ -57,10 +64,12 @@ version_text = codes "galois 0.1\n"
 abbrev pub told_meaning : List ℕ → CommandMeaning
 told_meaning text = record {
   reported = λ inputs report. report ≡ text;
+  bad_table = λ inputs why. ⊥;
   malformed = λ inputs line. ⊥;
   too_large = λ inputs what. ⊥;
   passes = λ inputs limit. ⊥;
   ends = λ inputs. ⊤;
+  faults = λ why. ⊥;
   lines = λ line. ⊥;
   limits = λ what. ⊥;
   runs_on = ⊥;

@@ -66,10 +66,12 @@ pub record IsFaultyTable (wanted : List Kind) (bytes : List ℕ) (line : ℕ) : 
 abbrev pub classify_meaning : CommandMeaning
 classify_meaning = record {
   reported = λ inputs report. IsClassReport all_kinds (main_of inputs) report;
+  bad_table = λ inputs why. ⊥;
   malformed = λ inputs line. IsFaultyTable all_kinds (main_of inputs) line;
   too_large = λ inputs what. ⊥;
   passes = λ inputs limit. ⊥;
   ends = λ inputs. IsTable all_kinds (main_of inputs);
+  faults = λ why. ⊥;
   lines = λ line. 1 ≤ line;
   limits = λ what. ⊥;
   runs_on = ⊥;

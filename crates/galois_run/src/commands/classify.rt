@@ -11,6 +11,7 @@ ghost use Rattle.galois_run.specs.commands.Classify.{class_text, pair_line, firs
 ghost use Rattle.line_writer.specs.Lines.{line};
 ghost use Rattle.galois_run.specs.RunFaults.{fault_of_text, fault_of_limit, FaultsWhere, Answers};
 ghost use Rattle.galois_run.specs.declared.run_faults.RunFault.TheVariants as faults;
+ghost use Rattle.galois_run.specs.declared.status.TableFault.{TableFault};
 
 use crate::commands::mode_lines::mode_lines;
 use crate::inputs::InputFiles;
@@ -157,6 +158,7 @@ fn classify_bytes(alloc: Global, bytes: &[u8]) -> Result<Vec<u8>, RunFault>
     ensures faulty { (line : ℕ) → FaultsWhere (IsFaultyTable all_kinds bytes.now line) (faults.BadInput line) result }
     ensures small { (what : What) → result ≡ Err (faults.TooLarge what) → ⊥ }
     ensures ends { (limit : Limit) → result ≡ Err (fault_of_limit limit) → ⊥ }
+    ensures accepted { (why : TableFault) → result ≡ Err (faults.BadTable why) → ⊥ }
 {
     match read_table(alloc, bytes, &kinds()) {
         Ok((kind, table)) => Ok(classify(alloc, kind, &table)?),

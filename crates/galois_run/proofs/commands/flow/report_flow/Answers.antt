@@ -4,4 +4,5 @@ use Rattle.galois_run.proofs.commands.flow.report_flow.Goals as goal
 
 pub returns : goal.returns
 returns c =
-    flow_answers c.args.options (inputs_in c.args.inputs.now) c.main.result.now c.flow_text.result c.main.ensures c.flow_text.ensures.reported c.flow_text.ensures.malformed c.flow_text.ensures.too_large c.flow_text.ensures.past
+    flow_answers c.args.options (inputs_in c.args.inputs.now) _ c.main.result.now c.flow_text.result c.conditions.ensures c.main.ensures c.flow_text.ensures.reported c.flow_text.ensures.bad_table
+    c.flow_text.ensures.malformed c.flow_text.ensures.too_large c.flow_text.ensures.past
