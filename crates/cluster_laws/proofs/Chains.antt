@@ -108,7 +108,7 @@ module _ (s : State) (n : ℕ) (are : AreNumbered s n) where
     pub pair : AreMutual s u v
     pub same : Same plan (weighing id u v) states
 
-  meets_as : (id : ℤ) (plan other : Plan) (states : ℕ → State) → Same plan other states → Meets id other states → Meets id plan states
+  pub meets_as : (id : ℤ) (plan other : Plan) (states : ℕ → State) → Same plan other states → Meets id other states → Meets id plan states
   meets_as id plan other states same m = record { u = m.u; v = m.v; apart = m.apart; pair = m.pair; same = same_then plan other (weighing id m.u m.v) states same m.same }
 
   both_meet : (id : ℤ) (p c : Spot) (states : ℕ → State) (b : Bool) → int_eq c.id p.id ≡ false → AreMutual s p c → Meets id (if b then weighing id c p else weighing id p c) states

@@ -3,6 +3,8 @@ use Rattle.std.proofs.Common.{◌≡◌, ◌⊎◌, inl, inr, ℕ, ◌+◌, ◌*
 use Rattle.std.specs.Prelude.{◌==◌, ◌||◌, ◌+ℤ◌, ◌*ℤ◌, unsigned_abs, int_le, int_lt, FitsSigned}
 use Rattle.std.specs.Ordering.{int_eq}
 use Rattle.std.specs.Int.{w64, int_wrap, int_div_euclid, int_wrapping_add}
+use Rattle.std.proofs.Math.IntN.{*ℤ-zero}
+use Rattle.std.proofs.Math.Nat.{zero-div}
 use Rattle.std.proofs.lemmas.Int.{fits_signed_from_abs, int_wrap_fits, wrapping_add_is, ints}
 use Rattle.gx_base.specs.declared.calls.Spot.{Spot}
 use Rattle.gx_base.specs.declared.items.Item.{Item}
@@ -35,7 +37,10 @@ plus_pos a b l =
     wrapping_add_is w64 (pos a) (pos b) (fits a first) (fits b second) ∙ int_wrap_fits w64 (pos (a + b)) (fits (a + b) l)
 
 mean_flat : (a b : ℕ) → 0 < a + b → mean (pos a) (pos 0) (pos b) (pos 0) ≡ pos 0
-mean_flat a b l = ?
+mean_flat a b l =
+    let sum : (pos a *ℤ pos 0) +ℤ (pos b *ℤ pos 0) ≡ pos 0 = λ i. *ℤ-zero (pos a) i +ℤ *ℤ-zero (pos b) i in
+    let none : int_div_euclid (pos 0) (pos a +ℤ pos b) ≡ pos 0 = ap pos (zero-div (a + b)) in
+    ap (λ (z : ℤ). int_wrap w64 (int_div_euclid z (pos a +ℤ pos b))) sum ∙ ap (int_wrap w64) none ∙ int_wrap_fits w64 (pos 0) (fits 0 (omega arith))
 
 positive : (a b : ℕ) → 0 < a → int_le (pos a +ℤ pos b) (pos 0) ≡ false
 positive a b l = no (int_le (pos a +ℤ pos b) (pos 0)) (λ t. omega (arith, ints))
@@ -150,6 +155,12 @@ module _ (n : ℕ) (most : n ≤ 20000) (states : ℕ → State) (cloud : IsClou
   not_low = ap (λ (x : ℤ). int_lt x (pos 0)) first_number.2 ∙ no (int_lt (pos i) (pos 0)) (λ t. omega (arith, ints))
 
   module _ (after : ℕ → State) (points : after 0 ≡ points_after (states 0) m) (cells : after 1 ≡ cells_after (states 1) m) where
+    are_after : (after 0).kind ≡ 3
+    are_after = ap (λ (s : State). s.kind) (points ∙ points-are (states 0) m cloud.are.are_points pair apart refl not_low (ap (λ (x : ℤ). int_eq x (pos 0)) merged_flat)) ∙ cloud.are.are_points
+
+    cells_after_it : (after 1).kind ≡ 1
+    cells_after_it = ap (λ (w : State). w.kind) (cells ∙ cells-are (states 1) m cloud.cells) ∙ cloud.cells
+
     merged_is : spot_at (after 0) u.id ≡ Some m.merged
     merged_is =
         ap (λ (s : State). spot_at s u.id) (points ∙ points-are (states 0) m cloud.are.are_points pair apart refl not_low (ap (λ (x : ℤ). int_eq x (pos 0)) merged_flat))
@@ -242,8 +253,8 @@ module _ (n : ℕ) (most : n ≤ 20000) (states : ℕ → State) (cloud : IsClou
 
     pub cloud_after : IsCloud n after
     cloud_after = record {
-      are = record { are_points = ?; number = number_after };
-      cells = ?;
+      are = record { are_points = are_after; number = number_after };
+      cells = cells_after_it;
       flat = flat_after;
       weight = moved cloud.weight i j;
       weighs = weighs_after;
@@ -252,9 +263,6 @@ module _ (n : ℕ) (most : n ≤ 20000) (states : ℕ → State) (cloud : IsClou
     }
 
     -- ---- what is ready after it
-
-    pushed : List Item
-    pushed = id_item u.id ∷ (if is_own m then [] else id_item id ∷ [])
 
     own_again : (x : ℤ) → id ≡ x → int_eq x u.id ≡ false → int_eq x v.id ≡ false → has_item (id_item u.id ∷ (if is_own m then [] else id_item id ∷ [])) (id_item x) ≡ true
     own_again x is e f =

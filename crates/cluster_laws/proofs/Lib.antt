@@ -7,5 +7,7 @@ pub mod Keys
 pub mod Chains
 pub mod Merges
 pub mod Clouds
+pub mod Bodies
 pub mod Beginnings
 pub mod Ends
+pub mod RunLaws

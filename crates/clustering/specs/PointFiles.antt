@@ -34,7 +34,7 @@ pub record IsPointsFile (bytes : List ℕ) (spots : List Spot) : Type 0 where
   pub are : spots ≡ numbered 0 places
 
 -- row k, from 1, says of no point where it stands, and each row before it does
-pub record IsFirstFault (bytes : List ℕ) (k : ℕ) : Type 0 where
+pub record IsFirstBadRow (bytes : List ℕ) (k : ℕ) : Type 0 where
   pub rows : List Row
   pub are_rows : AreRows bytes rows
   pub from_one : 1 ≤ k
@@ -60,7 +60,7 @@ pub record IsTooLarge (bytes : List ℕ) : Type 0 where
 -- what a text calls for
 abbrev pub CallsFor : List ℕ → Result (List Spot) InputFault → Type 0
 CallsFor bytes (Ok spots) = IsReadable bytes spots
-CallsFor bytes (Err (Line k)) = IsFirstFault bytes k
+CallsFor bytes (Err (Line k)) = IsFirstBadRow bytes k
 CallsFor bytes (Err (Large Points)) = IsTooLarge bytes
 CallsFor bytes (Err (Large what)) = ⊥
 CallsFor bytes (Err NoMemory) = ⊥

@@ -4,7 +4,7 @@ use Rattle.gx_base.specs.declared.inputs.InputFault.{InputFault}
 use Rattle.gx_base.specs.declared.inputs.InputFault.TheVariants.{Line, Large, NoMemory}
 use Rattle.clustering.specs.declared.reading.Seen.{Seen}
 use Rattle.clustering.specs.PointRows.{Row, Place, place_of}
-use Rattle.clustering.specs.PointFiles.{AreRows, IsFirstFault, numbered, most_points}
+use Rattle.clustering.specs.PointFiles.{AreRows, IsFirstBadRow, numbered, most_points}
 
 -- these rows say where points stand, and as many of the points as may be read are kept
 pub record HasRead (rows : List Row) (seen : Seen) : Type 0 where
@@ -21,6 +21,6 @@ pub record HasReadAll (bytes : List ℕ) (seen : Seen) : Type 0 where
 
 -- why no more was read
 abbrev pub StopsReading : List ℕ → InputFault → Type 0
-StopsReading bytes (Line k) = IsFirstFault bytes k
+StopsReading bytes (Line k) = IsFirstBadRow bytes k
 StopsReading bytes (Large what) = ⊥
 StopsReading bytes NoMemory = ⊤

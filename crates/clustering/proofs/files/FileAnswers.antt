@@ -11,7 +11,7 @@ use Rattle.gx_base.specs.declared.inputs.InputFault.{InputFault}
 use Rattle.gx_base.specs.declared.inputs.InputFault.TheVariants as faults
 use Rattle.clustering.specs.declared.reading.Seen.{Seen}
 use Rattle.clustering.specs.PointRows.{Row, Place, place_of}
-use Rattle.clustering.specs.PointFiles.{AreRows, IsPointsFile, IsFirstFault, IsReadable, IsTooLarge, CallsFor, CallsForOne, answer_of, numbered, most_points}
+use Rattle.clustering.specs.PointFiles.{AreRows, IsPointsFile, IsFirstBadRow, IsReadable, IsTooLarge, CallsFor, CallsForOne, answer_of, numbered, most_points}
 use Rattle.clustering.specs.PointReading.{HasRead, HasReadAll, StopsReading}
 use Rattle.clustering.proofs.files.TextRows.{rows_from, same_rows}
 use Rattle.clustering.proofs.files.RowRuns.{some_place, length_numbered, as_many}
@@ -59,12 +59,12 @@ same_points bytes spots others f g =
     let places = same_places f.places g.places (sym f.each ∙ ap (λ (rs : List Row). map place_of rs) rows ∙ g.each) in
     f.are ∙ ap (numbered 0) places ∙ sym g.are
 
-no_fault : (bytes : List ℕ) (spots : List Spot) (k : ℕ) → IsPointsFile bytes spots → IsFirstFault bytes k → ⊥
+no_fault : (bytes : List ℕ) (spots : List Spot) (k : ℕ) → IsPointsFile bytes spots → IsFirstBadRow bytes k → ⊥
 no_fault bytes spots k f g =
     let rows = rows_same bytes g.rows f.rows g.are_rows f.are_rows in
     none_here f.rows f.places (k - 1) g.row f.each (sym (ap (λ (rs : List Row). slice_get rs (k - 1)) rows) ∙ g.at) g.faulty
 
-no_later : (bytes : List ℕ) (k j : ℕ) → IsFirstFault bytes k → IsFirstFault bytes j → k < j → ⊥
+no_later : (bytes : List ℕ) (k j : ℕ) → IsFirstBadRow bytes k → IsFirstBadRow bytes j → k < j → ⊥
 no_later bytes k j f g lt =
     let rows = rows_same bytes f.rows g.rows f.are_rows g.are_rows in
     let from_one : 1 ≤ k = f.from_one in

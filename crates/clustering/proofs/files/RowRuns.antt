@@ -11,7 +11,7 @@ use Rattle.csv.specs.declared.parser.State.TheVariants as st
 use Rattle.gx_base.specs.declared.calls.Spot.{Spot}
 use Rattle.clustering.specs.declared.reading.Seen.{Seen}
 use Rattle.clustering.specs.PointRows.{Row, Place, place_of}
-use Rattle.clustering.specs.PointFiles.{AreRows, IsFirstFault, spot_in, numbered, most_points}
+use Rattle.clustering.specs.PointFiles.{AreRows, IsFirstBadRow, spot_in, numbered, most_points}
 use Rattle.clustering.specs.PointReading.{HasRead, HasReadAll}
 use Rattle.clustering.proofs.files.TextRows.{rests, rows_from, rows_after}
 
@@ -72,7 +72,7 @@ append_row [] row more = refl
 append_row (r ∷ rows) row more = ap (λ (l : List Row). r ∷ l) (append_row rows row more)
 
 pub stops_at : (bytes : List ℕ) (rows : List Row) (row : Row) (seen : Seen) (s : State) (ys : List ℕ) → Reached default_config st.StartRecord (strip_bom bytes) (rows ++ row ∷ []) s ys
-    → HasRead rows seen → place_of row ≡ None → (k : ℕ) → k ≡ seen.rows + 1 → IsFirstFault bytes k
+    → HasRead rows seen → place_of row ≡ None → (k : ℕ) → k ≡ seen.rows + 1 → IsFirstBadRow bytes k
 stops_at bytes rows row seen s ys reached read odd k is =
     let rest : ends_at_end s ≡ false = (rests st.StartRecord s (strip_bom bytes) ys (rows ++ row ∷ []) refl reached).0 in
     let more = rows_from (length ys) s ys rest (omega arith) in
