@@ -20,7 +20,7 @@ use Rattle.clustering.specs.Chain.{id_item}
 use Rattle.clustering.specs.Starts.{no_points, no_cells, added, weighing_one, start_points, start_weights, start_states, start_ready}
 use Rattle.cluster_laws.proofs.Bodies.{HoldsBetween}
 use Rattle.cluster_laws.proofs.Calls.{ArePoints, AreCells, place, int_same, add_next, set_next}
-use Rattle.cluster_laws.proofs.Clouds.{IsCloud, int_apart}
+use Rattle.cluster_laws.proofs.Clouds.{IsCloud, int_apart, not_negative}
 use Rattle.cluster_laws.proofs.Counts.{no_bool, bit, total_units}
 use Rattle.cluster_laws.proofs.Items.{entered, first_of, later_of}
 
@@ -48,7 +48,7 @@ module _ (m : ℕ) (s : State) (below : AreBelow m s) (p : Place) where
   with_one = with_row s (0, pos m) (Some (place (spot_in m p)))
 
   is_with_one : added s (spot_in m p) ≡ with_one
-  is_with_one = add_next s (spot_in m p) below.are_points (below.free m (omega arith)) refl refl
+  is_with_one = add_next s (spot_in m p) below.are_points (below.free m (omega arith)) (not_negative m) refl
 
   at_it : (id : ℤ) → int_eq id (pos m) ≡ true → spot_at with_one id ≡ Some (record { id = id; x = p.0; y = p.1; z = pos 0 })
   at_it id e = spot_at-with s (pos m) (Some (place (spot_in m p))) id ∙ ap (λ (b : Bool). cond b (spot_of id (Some (place (spot_in m p)))) (spot_at s id)) e

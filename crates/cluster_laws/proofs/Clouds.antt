@@ -42,6 +42,10 @@ mean_flat a b l =
     let none : int_div_euclid (pos 0) (pos a +ℤ pos b) ≡ pos 0 = ap pos (zero-div (a + b)) in
     ap (λ (z : ℤ). int_wrap w64 (int_div_euclid z (pos a +ℤ pos b))) sum ∙ ap (int_wrap w64) none ∙ int_wrap_fits w64 (pos 0) (fits 0 (omega arith))
 
+-- no number of a point is below 0
+pub not_negative : (k : ℕ) → int_lt (pos k) (pos 0) ≡ false
+not_negative k = no (int_lt (pos k) (pos 0)) (λ t. omega (arith, ints))
+
 positive : (a b : ℕ) → 0 < a → int_le (pos a +ℤ pos b) (pos 0) ≡ false
 positive a b l = no (int_le (pos a +ℤ pos b) (pos 0)) (λ t. omega (arith, ints))
 
@@ -152,7 +156,7 @@ module _ (n : ℕ) (most : n ≤ 20000) (states : ℕ → State) (cloud : IsClou
   no_key k l = ap (int_eq (pos k)) key-is ∙ int_apart k (2000000 + j) (λ e. omega arith)
 
   not_low : int_lt u.id (pos 0) ≡ false
-  not_low = ap (λ (x : ℤ). int_lt x (pos 0)) first_number.2 ∙ no (int_lt (pos i) (pos 0)) (λ t. omega (arith, ints))
+  not_low = ap (λ (x : ℤ). int_lt x (pos 0)) first_number.2 ∙ not_negative i
 
   module _ (after : ℕ → State) (points : after 0 ≡ points_after (states 0) m) (cells : after 1 ≡ cells_after (states 1) m) where
     are_after : (after 0).kind ≡ 3
