@@ -1,19 +1,17 @@
 -- What holds of points and of their weights at the start of a run.
-use Rattle.std.proofs.Common.{◌≡◌, ◌⊎◌, inl, inr, ℕ, zero, suc, ◌+◌, ◌<◌, ◌≤◌, ℤ, pos, Bool, true, false, if◌then◌else◌, nat_lt, Option, Some, None, List, [], ◌∷◌, length, map, refl, sym, ap, subst, ◌∙◌, arith}
+use Rattle.std.proofs.Common.{◌≡◌, ◌⊎◌, inl, inr, ℕ, suc, ◌+◌, ◌<◌, ◌≤◌, ℤ, pos, Bool, true, false, nat_lt, Some, None, List, [], ◌∷◌, length, refl, sym, ap, subst, ◌∙◌, arith}
 use Rattle.std.specs.Prelude.{unsigned_abs, cond}
 use Rattle.std.specs.FinMap as finite
 use Rattle.std.specs.List.{fold}
 use Rattle.std.specs.Ordering.{int_eq}
 use Rattle.std.proofs.lemmas.Bool.{ltb-true, ltb-false, cases_lt}
 use Rattle.gx_base.specs.declared.calls.Spot.{Spot}
-use Rattle.gx_base.specs.declared.items.Item.{Item}
 use Rattle.gx_base.specs.PointKind.{spot_of, spot_at}
 use Rattle.gx_base.specs.States.{State, row_cmp, row_at, with_row, number_at, with_number}
-use Rattle.gx_base.specs.Steps.{next_state}
 use Rattle.gx_base.specs.Worklists.{has_item, with_items}
 use Rattle.gx_base.proofs.CallerLemmas.{row_at-with, same_row-sort, number_at-same, number_at-other, same_int, kind-next_state}
 use Rattle.kd_points.specs.NearestPoints.{spot_at-with, some_is, some_none}
-use Rattle.clustering.specs.PointCalls.{add, set}
+use Rattle.clustering.specs.PointCalls.{add}
 use Rattle.clustering.specs.PointRows.{Place}
 use Rattle.clustering.specs.PointFiles.{spot_in, numbered}
 use Rattle.clustering.specs.Chain.{id_item}
@@ -133,11 +131,11 @@ all_units (p ∷ places) m w h =
 
 among : (places : List Place) (m k : ℕ) → m ≤ k → k < m + length places → has_item (start_ready (numbered m places)) (id_item (pos k)) ≡ true
 among [] m k l less = absurd (omega arith)
-among (p ∷ places) m k l less = by (cases_lt m k)
+among (p ∷ places) m k l less = by (cases_lt m k) (λ more. among places (suc m) k (omega arith) (omega arith))
   where
-    by : (m < k) ⊎ (k ≤ m) → has_item (start_ready (numbered m (p ∷ places))) (id_item (pos k)) ≡ true
-    by (inl more) = later_of (id_item (pos m)) (id_item (pos k)) (start_ready (numbered (suc m) places)) (among places (suc m) k (omega arith) (omega arith))
-    by (inr here) =
+    by : (m < k) ⊎ (k ≤ m) → (m < k → has_item (start_ready (numbered (suc m) places)) (id_item (pos k)) ≡ true) → has_item (start_ready (numbered m (p ∷ places))) (id_item (pos k)) ≡ true
+    by (inl more) rest = later_of (id_item (pos m)) (id_item (pos k)) (start_ready (numbered (suc m) places)) (rest more)
+    by (inr here) rest =
         let is : k ≡ m = omega arith in
         subst (λ (x : ℕ). has_item (start_ready (numbered m (p ∷ places))) (id_item (pos x)) ≡ true) (sym is) (first_of (id_item (pos m)) (start_ready (numbered (suc m) places)))
 

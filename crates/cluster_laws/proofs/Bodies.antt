@@ -1,5 +1,5 @@
 -- Each body of a run on points keeps what holds of them, and its bound isn't what ends it.
-use Rattle.std.proofs.Common.{◌≡◌, ◌⊎◌, inl, inr, ℕ, suc, ◌+◌, ◌<◌, ◌≤◌, ℤ, pos, Bool, true, false, if◌then◌else◌, Option, Some, None, List, [], ◌∷◌, refl, sym, ap, subst, ◌∙◌, arith}
+use Rattle.std.proofs.Common.{◌≡◌, ◌⊎◌, inl, inr, ℕ, suc, ◌+◌, ◌≤◌, ℤ, pos, Bool, true, false, if◌then◌else◌, Option, Some, None, List, [], refl, sym, ap, subst, ◌∙◌, arith}
 use Rattle.std.specs.Prelude.{◌&&◌}
 use Rattle.std.specs.Ordering.{int_eq}
 use Rattle.std.proofs.Math.Numerals.{add-one}
@@ -19,7 +19,7 @@ use Rattle.kd_points.specs.NearestPoints.{some_none}
 use Rattle.clustering.specs.PointCalls.{at}
 use Rattle.clustering.specs.Chain.{id_item, is_of_id, chase, with_place, chain_body, chain_plan, weighing, merging}
 use Rattle.cluster_laws.specs.ClusterRuns.{IsUnbounded}
-use Rattle.cluster_laws.proofs.Calls.{next_at, reply_at, own_spot, own_id, int_same}
+use Rattle.cluster_laws.proofs.Calls.{next_at, reply_at, own_spot, own_id}
 use Rattle.cluster_laws.proofs.Chains.{AreNumbered, Meets, meets_as, Alone, begins, begins-same}
 use Rattle.cluster_laws.proofs.Clouds as clouds
 use Rattle.cluster_laws.proofs.Clouds.{IsCloud, IsSingle, Waits, first_weighs, second_weighs, weights_positive, cloud_after, waits_after}
@@ -79,26 +79,29 @@ merged : (n : ℕ) → n ≤ 20000 → (id : ℤ) (plan : Plan) (states : ℕ �
     → Left n plan (id_item id) states ready
 merged n most id plan states ready cloud found wait =
     let to : Same (weighing id found.u found.v) (merging (clouds.m n most states cloud id found.u found.v found.apart found.pair)) states =
-        weighs id found.u found.v states (pos (clouds.a n most states cloud id found.u found.v found.apart found.pair)) (pos (clouds.b n most states cloud id found.u found.v found.apart found.pair)) cloud.cells
-        (first_weighs n most states cloud id found.u found.v found.apart found.pair) (second_weighs n most states cloud id found.u found.v found.apart found.pair)
-        (weights_positive n most states cloud id found.u found.v found.apart found.pair) in
+    weighs id found.u found.v states (pos (clouds.a n most states cloud id found.u found.v found.apart found.pair)) (pos (clouds.b n most states cloud id found.u found.v found.apart found.pair)) cloud.cells
+    (first_weighs n most states cloud id found.u found.v found.apart found.pair) (second_weighs n most states cloud id found.u found.v found.apart found.pair)
+    (weights_positive n most states cloud id found.u found.v found.apart found.pair) in
     let all : Same plan (merging (clouds.m n most states cloud id found.u found.v found.apart found.pair)) states = same_then plan (weighing id found.u found.v) _ states found.same to in
     let points = ap (λ (f : ℕ → State). f 0) all.0 ∙ merging_points (clouds.m n most states cloud id found.u found.v found.apart found.pair) states in
     let cells = ap (λ (f : ℕ → State). f 1) all.0 ∙ merging_cells (clouds.m n most states cloud id found.u found.v found.apart found.pair) states in
-    let pushes = all.1 ∙ merging_pushes (clouds.m n most states cloud id found.u found.v found.apart found.pair) states in
-    (cloud_after n most states cloud id found.u found.v found.apart found.pair (body plan states).states points cells,
-     subst (Waits ((body plan states).states 0)) (sym (ready_is plan (id_item id) states ready _ pushes))
-     (waits_after n most states cloud id found.u found.v found.apart found.pair (body plan states).states points cells ready wait))
+    let pushes = all.1 ∙ merging_pushes (clouds.m n most states cloud id found.u found.v found.apart found.pair) states in (
+      cloud_after n most states cloud id found.u found.v found.apart found.pair (body plan states).states points cells,
+      subst (Waits ((body plan states).states 0)) (sym (ready_is plan (id_item id) states ready _ pushes))
+          (waits_after n most states cloud id found.u found.v found.apart found.pair (body plan states).states points cells ready wait),
+    )
 
 item_is : (item : Item) → is_of_id item ≡ true → id_item item.k0 ≡ item
 item_is item e =
-    let first : (int_eq item.k1 (pos 0) ≡ true) × ((int_eq item.k2 (pos 0) && int_eq item.k3 (pos 0)) ≡ true) = both _ _ e in
-    let rest : (int_eq item.k2 (pos 0) ≡ true) × (int_eq item.k3 (pos 0) ≡ true) = both _ _ first.1 in
-    λ i. record { k0 = item.k0; k1 = sym (same_int item.k1 (pos 0) first.0) i; k2 = sym (same_int item.k2 (pos 0) rest.0) i; k3 = sym (same_int item.k3 (pos 0) rest.1) i }
+    let last : ((int_eq item.k1 (pos 0) && int_eq item.k2 (pos 0)) ≡ true) × (int_eq item.k3 (pos 0) ≡ true) = both _ _ e in
+    let first : (int_eq item.k1 (pos 0) ≡ true) × (int_eq item.k2 (pos 0) ≡ true) = both _ _ last.0 in
+    λ i. record { k0 = item.k0; k1 = sym (same_int item.k1 (pos 0) first.0) i; k2 = sym (same_int item.k2 (pos 0) first.1) i; k3 = sym (same_int item.k3 (pos 0) last.1) i }
 
 -- with_place goes on from a point
 placed : (s : State) (id : ℤ) (calls : ℕ) (c : Spot) → spot_at s id ≡ Some c → with_place id (calls + 1) (at_reply (Some c)) ≡ chase id (suc calls) None c
-placed s id calls c there = λ i. chase id (add-one calls i) None (own_spot s id c there (~ i))
+placed s id calls c there =
+    let back : record { id = id; x = c.x; y = c.y; z = c.z } ≡ c = sym (own_spot s id c there) in
+    λ i. chase id (add-one calls i) None (back i)
 
 module _ (n : ℕ) (most : n ≤ 20000) where
   begun : (id : ℤ) (states : ℕ → State) (found : Option Spot) → IsCloud n states → spot_at (states 0) id ≡ found → Same (chain_body id (n + 1)) (with_place id (n + 1) (at_reply found)) states

@@ -1,6 +1,7 @@
 -- What the calls of a body do to points and to cells.
-use Rattle.std.proofs.Common.{◌≡◌, ℕ, ℤ, pos, Bool, true, false, Option, Some, None, List, [], ◌∷◌, refl, sym, ap, subst, ◌∙◌}
+use Rattle.std.proofs.Common.{◌≡◌, ℕ, ℤ, pos, true, false, Option, Some, None, List, [], ◌∷◌, refl, sym, ap, subst, ◌∙◌}
 use Rattle.std.specs.Prelude.{int_lt}
+use Rattle.std.specs.Cmp.{signed_Decides}
 use Rattle.std.specs.Ordering.{int_eq}
 use Rattle.gx_base.specs.declared.calls.Spot.{Spot}
 use Rattle.gx_base.specs.Meanings.{number_reply}
@@ -68,7 +69,7 @@ pub own_id : (s : State) (id : ℤ) (u : Spot) → spot_at s id ≡ Some u → u
 own_id s id u e = ap (λ (t : Spot). t.id) (own_spot s id u e)
 
 pub int_same : (x : ℤ) → int_eq x x ≡ true
-int_same x = grind
+int_same x = (signed_Decides x x).1 refl
 
 same_place : (u : Spot) → same_numbers (place u) (place u) ≡ true
 same_place u = rw (int_same u.x, int_same u.y, int_same u.z) refl

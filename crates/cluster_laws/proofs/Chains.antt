@@ -1,5 +1,5 @@
 -- A chain ends at two points that are each other's nearest, within as many calls of `nearest` as there are points.
-use Rattle.std.proofs.Common.{◌≡◌, ◌⊎◌, inl, inr, ℕ, zero, suc, ◌+◌, ◌<◌, ◌≤◌, ℤ, pos, negsuc, Bool, true, false, if◌then◌else◌, Option, Some, None, refl, sym, ap, subst, ◌∙◌, arith}
+use Rattle.std.proofs.Common.{◌≡◌, ◌⊎◌, inl, inr, ℕ, zero, suc, ◌<◌, ◌≤◌, ℤ, pos, negsuc, Bool, true, false, if◌then◌else◌, Option, Some, None, refl, sym, ap, subst, ◌∙◌, arith}
 use Rattle.std.specs.Ordering.{int_eq, is_lt}
 use Rattle.std.specs.Cmp.{tied_itself}
 use Rattle.std.specs.declared.cmp.Ordering.TheVariants.{Less}
@@ -30,7 +30,7 @@ lower_by : Key → Spot → Option Spot → Bool
 lower_by key c None = false
 lower_by key c (Some q) = is_lt (key_cmp (pk c q) key)
 
-lower_at : State → Key → Option Spot → Bool
+pub lower_at : State → Key → Option Spot → Bool
 lower_at s key None = false
 lower_at s key (Some c) = lower_by key c (points.nearest s c)
 
@@ -121,23 +121,27 @@ module _ (s : State) (n : ℕ) (are : AreNumbered s n) where
       let back : Some q ≡ Some p = sym (other_of s c q near).there ∙ ap (spot_at s) (same_int q.id p.id same) ∙ link.1 in
       record { first = link.1; second = link.0; nearest_first = link.2; nearest_second = near ∙ back }
 
+  -- the chain goes on from c
+  abbrev MeetsLater : ℤ → ℕ → Spot → (ℕ → State) → Type 0
+  MeetsLater id calls c states = (q : Spot) → points.nearest s c ≡ Some q → spot_at s q.id ≡ Some q → rank s (pk c q) n < calls → Meets id (chase id calls (Some c) q) states
+
   chase-meets : (id : ℤ) (calls : ℕ) (p c : Spot) (states : ℕ → State) → states 0 ≡ s → Link s (Some p) c → rank s (pk p c) n < calls → Meets id (chase id calls (Some p) c) states
   chase-meets id zero p c states e link l = absurd (omega arith)
-  chase-meets id (suc calls) p c states e link l = from (next_of p c link (points.nearest s c) refl)
+  chase-meets id (suc calls) p c states e link l = from (next_of p c link (points.nearest s c) refl) (λ q near there less. chase-meets id calls c q states e (there, link.0, near) less)
     where
-      from : ((q : Spot) × (points.nearest s c ≡ Some q)) → Meets id (chase id (suc calls) (Some p) c) states
-      from next =
+      from : ((q : Spot) × (points.nearest s c ≡ Some q)) → MeetsLater id calls c states → Meets id (chase id (suc calls) (Some p) c) states
+      from next later =
           let q : Spot = next.0 in
           let near : points.nearest s c ≡ Some q = next.1 in
           let there : spot_at s q.id ≡ Some q = (other_of s c q near).there in
           meets_as id _ _ states (asked id calls (Some p) c (Some q) states e near)
-          (subst (λ (plan : Plan). Meets id plan states) (sym (found_one id calls (Some p) c q there)) (by q near there (int_eq q.id p.id) refl))
+          (subst (λ (plan : Plan). Meets id plan states) (sym (found_one id calls (Some p) c q there)) (by q near there later (int_eq q.id p.id) refl))
         where
-          by : (q : Spot) → points.nearest s c ≡ Some q → spot_at s q.id ≡ Some q → (b : Bool) → int_eq q.id p.id ≡ b → Meets id (if b then merging_both id p c else chase id calls (Some c) q) states
-          by q near there true same = both_meet id p c states _ (other_of s p c link.2).other (pair_of p c q link near same)
-          by q near there false apart =
+          by : (q : Spot) → points.nearest s c ≡ Some q → spot_at s q.id ≡ Some q → MeetsLater id calls c states → (b : Bool) → int_eq q.id p.id ≡ b → Meets id (if b then merging_both id p c else chase id calls (Some c) q) states
+          by q near there later true same = both_meet id p c states _ (other_of s p c link.2).other (pair_of p c q link near same)
+          by q near there later false apart =
               let less : rank s (pk c q) n < rank s (pk p c) n = rank_falls p c q link.0 near (falls s p c q link.1 link.2 near apart) in
-              chase-meets id calls c q states e (there, link.0, near) (omega arith)
+              later q near there (omega arith)
 
   -- ---- from the point of an item
 
@@ -175,14 +179,20 @@ module _ (s : State) (n : ℕ) (are : AreNumbered s n) where
       ∙ sym (ap (λ (plan : Plan). body plan states) (found_one id a o c q there))
       ∙ sym (ap (λ (x : Reply). body (with_nearest id (chase id a) o c x) states) e)
 
+  -- the chain goes on from c
+  abbrev SameLater : ℤ → (a b : ℕ) → Spot → Type 0
+  SameLater id a b c = (q : Spot) → points.nearest s c ≡ Some q → spot_at s q.id ≡ Some q → (after : ℕ → State) → after 0 ≡ s → rank s (pk c q) n < a
+      → body (chase id b (Some c) q) after ≡ body (chase id a (Some c) q) after
+
   chase-same : (id : ℤ) (a b : ℕ) (p c : Spot) (states : ℕ → State) → states 0 ≡ s → Link s (Some p) c → rank s (pk p c) n < a → a ≤ b
       → body (chase id b (Some p) c) states ≡ body (chase id a (Some p) c) states
   chase-same id zero b p c states e link l m = absurd (omega arith)
   chase-same id (suc a) zero p c states e link l m = absurd (omega arith)
-  chase-same id (suc a) (suc b) p c states e link l m = from (next_of p c link (points.nearest s c) refl)
+  chase-same id (suc a) (suc b) p c states e link l m =
+      from (next_of p c link (points.nearest s c) refl) (λ q near there after f less. chase-same id a b c q after f (there, link.0, near) less (omega arith))
     where
-      from : ((q : Spot) × (points.nearest s c ≡ Some q)) → body (chase id (suc b) (Some p) c) states ≡ body (chase id (suc a) (Some p) c) states
-      from next =
+      from : ((q : Spot) × (points.nearest s c ≡ Some q)) → SameLater id a b c → body (chase id (suc b) (Some p) c) states ≡ body (chase id (suc a) (Some p) c) states
+      from next later =
           let q : Spot = next.0 in
           let near : points.nearest s c ≡ Some q = next.1 in
           let there : spot_at s q.id ≡ Some q = (other_of s c q near).there in
@@ -190,14 +200,14 @@ module _ (s : State) (n : ℕ) (are : AreNumbered s n) where
           let left : next_state (states 0) (nearest c) ≡ s = ap (λ (t : State). next_state t (nearest c)) e ∙ next_nearest s c are.are_points in
           call_same 0 (nearest c) (λ reply. with_nearest id (chase id b) (Some p) c reply) (λ reply. with_nearest id (chase id a) (Some p) c reply) states
           (goes_same id a b (Some p) c q (put states 0 (next_state (states 0) (nearest c))) (reply_to (states 0) (nearest c)) there replied
-          (by q near there (put states 0 (next_state (states 0) (nearest c))) left (int_eq q.id p.id) refl))
+          (by q near there later (put states 0 (next_state (states 0) (nearest c))) left (int_eq q.id p.id) refl))
         where
-          by : (q : Spot) → points.nearest s c ≡ Some q → spot_at s q.id ≡ Some q → (after : ℕ → State) → after 0 ≡ s → (t : Bool) → int_eq q.id p.id ≡ t
+          by : (q : Spot) → points.nearest s c ≡ Some q → spot_at s q.id ≡ Some q → SameLater id a b c → (after : ℕ → State) → after 0 ≡ s → (t : Bool) → int_eq q.id p.id ≡ t
               → body (if t then merging_both id p c else chase id b (Some c) q) after ≡ body (if t then merging_both id p c else chase id a (Some c) q) after
-          by q near there after f true same = refl
-          by q near there after f false apart =
+          by q near there later after f true same = refl
+          by q near there later after f false apart =
               let less : rank s (pk c q) n < rank s (pk p c) n = rank_falls p c q link.0 near (falls s p c q link.1 link.2 near apart) in
-              chase-same id a b c q after f (there, link.0, near) (omega arith) (omega arith)
+              later q near there after f (omega arith)
 
   pub begins-same : (id : ℤ) (b : ℕ) (c : Spot) (states : ℕ → State) → states 0 ≡ s → spot_at s c.id ≡ Some c → n ≤ b
       → body (chase id (suc b) None c) states ≡ body (chase id (suc n) None c) states

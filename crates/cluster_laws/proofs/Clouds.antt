@@ -1,8 +1,8 @@
 -- What holds of points and of their weights between two bodies, and that a merge keeps it.
-use Rattle.std.proofs.Common.{◌≡◌, ◌⊎◌, inl, inr, ℕ, ◌+◌, ◌*◌, ◌/◌, ◌<◌, ◌≤◌, ◌^◌, ℤ, pos, Bool, true, false, if◌then◌else◌, Option, Some, None, List, [], ◌∷◌, refl, sym, ap, subst, ◌∙◌, arith}
+use Rattle.std.proofs.Common.{◌≡◌, ◌⊎◌, inl, inr, ℕ, ◌+◌, ◌<◌, ◌≤◌, ◌^◌, ℤ, pos, Bool, true, false, if◌then◌else◌, Some, None, List, [], ◌∷◌, refl, sym, ap, subst, ◌∙◌, arith}
 use Rattle.std.specs.Prelude.{◌==◌, ◌||◌, ◌+ℤ◌, ◌*ℤ◌, unsigned_abs, int_le, int_lt, FitsSigned}
 use Rattle.std.specs.Ordering.{int_eq}
-use Rattle.std.specs.Int.{w64, int_wrap, int_div_euclid, int_wrapping_add}
+use Rattle.std.specs.Int.{w64, int_wrap, int_div_euclid}
 use Rattle.std.proofs.Math.IntN.{*ℤ-zero}
 use Rattle.std.proofs.Math.Nat.{zero-div}
 use Rattle.std.proofs.lemmas.Int.{fits_signed_from_abs, int_wrap_fits, wrapping_add_is, ints}
@@ -18,7 +18,7 @@ use Rattle.clustering.specs.Chain.{id_item, plus, mean, merge_of, into_key, weig
 use Rattle.cluster_laws.specs.MutualPairs.{AreMutual}
 use Rattle.cluster_laws.proofs.Calls.{AreCells, int_same}
 use Rattle.cluster_laws.proofs.Chains.{AreNumbered}
-use Rattle.cluster_laws.proofs.Counts.{numbers_equal, same_number, no, no_bool, unequal, total, total_moved, total_at_two}
+use Rattle.cluster_laws.proofs.Counts.{same_number, no, no_bool, unequal, total, total_moved, total_at_two}
 use Rattle.cluster_laws.proofs.Items.{stays, entered, kept_in, first_of, later_of, id_of}
 use Rattle.cluster_laws.proofs.Merges.{points_after, cells_after, is_own, points-are, merged_there, second_gone, others_stay, cells-are, first_weight, other_weight}
 
@@ -87,10 +87,10 @@ Waits s ready = ((id : ℤ) (r : Spot) → spot_at s id ≡ Some r → has_item 
 -- ---- a merge
 
 module _ (n : ℕ) (most : n ≤ 20000) (states : ℕ → State) (cloud : IsCloud n states) (id : ℤ) (u v : Spot) (apart : int_eq v.id u.id ≡ false) (pair : AreMutual (states 0) u v) where
-  first_number : (k : ℕ) × (k < n) × (u.id ≡ pos k)
+  abbrev first_number : (k : ℕ) × (k < n) × (u.id ≡ pos k)
   first_number = cloud.are.number u.id u pair.first
 
-  second_number : (k : ℕ) × (k < n) × (v.id ≡ pos k)
+  abbrev second_number : (k : ℕ) × (k < n) × (v.id ≡ pos k)
   second_number = cloud.are.number v.id v pair.second
 
   abbrev i : ℕ
@@ -144,10 +144,10 @@ module _ (n : ℕ) (most : n ≤ 20000) (states : ℕ → State) (cloud : IsClou
       (λ i. mean (pos a) (cloud.flat u.id u pair.first i) (pos b) (cloud.flat v.id v pair.second i)) ∙ mean_flat a b (omega arith)
 
   into-is : into_key v.id ≡ pos (1000000 + j)
-  into-is = let l = second_number.1 in ap (plus (pos 1000000)) second_number.2 ∙ plus_pos 1000000 j (omega arith)
+  into-is = let l : j < n = second_number.1 in ap (plus (pos 1000000)) second_number.2 ∙ plus_pos 1000000 j (omega arith)
 
   key-is : weight_key v.id ≡ pos (2000000 + j)
-  key-is = let l = second_number.1 in ap (plus (pos 2000000)) second_number.2 ∙ plus_pos 2000000 j (omega arith)
+  key-is = let l : j < n = second_number.1 in ap (plus (pos 2000000)) second_number.2 ∙ plus_pos 2000000 j (omega arith)
 
   no_into : (k : ℕ) → k < n → int_eq (pos k) (into_key v.id) ≡ false
   no_into k l = ap (int_eq (pos k)) into-is ∙ int_apart k (1000000 + j) (λ e. omega arith)

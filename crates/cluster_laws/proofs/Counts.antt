@@ -50,14 +50,14 @@ count_up f g h (suc n) =
 -- one number has only the second property
 pub count_less : (f g : ℕ → Bool) → ((k : ℕ) → f k ≡ true → g k ≡ true) → (i : ℕ) → f i ≡ false → g i ≡ true → (n : ℕ) → i < n → count f n < count g n
 count_less f g h i e t zero l = absurd (omega arith)
-count_less f g h i e t (suc n) l = by (cases_lt i n)
+count_less f g h i e t (suc n) l = by (cases_lt i n) (λ less. count_less f g h i e t n less)
   where
-    by : (i < n) ⊎ (n ≤ i) → count f (suc n) < count g (suc n)
-    by (inl less) =
+    by : (i < n) ⊎ (n ≤ i) → (i < n → count f n < count g n) → count f (suc n) < count g (suc n)
+    by (inl less) before =
         let here : bit (f n) ≤ bit (g n) = bit_up (f n) (g n) (h n) in
-        let rest : count f n < count g n = count_less f g h i e t n less in
+        let rest : count f n < count g n = before less in
         omega arith
-    by (inr more) =
+    by (inr more) before =
         let is : n ≡ i = omega arith in
         let here : bit (f n) ≡ 0 = ap bit (ap f is ∙ e) in
         let there : bit (g n) ≡ 1 = ap bit (ap g is ∙ t) in
@@ -74,14 +74,14 @@ count_most f (suc n) =
 -- one number hasn't the property
 pub count_below : (f : ℕ → Bool) (i : ℕ) → f i ≡ false → (n : ℕ) → i < n → count f n < n
 count_below f i e zero l = absurd (omega arith)
-count_below f i e (suc n) l = by (cases_lt i n)
+count_below f i e (suc n) l = by (cases_lt i n) (λ less. count_below f i e n less)
   where
-    by : (i < n) ⊎ (n ≤ i) → count f (suc n) < suc n
-    by (inl less) =
+    by : (i < n) ⊎ (n ≤ i) → (i < n → count f n < n) → count f (suc n) < suc n
+    by (inl less) before =
         let here : bit (f n) ≤ 1 = bit_most (f n) in
-        let rest : count f n < n = count_below f i e n less in
+        let rest : count f n < n = before less in
         omega arith
-    by (inr more) =
+    by (inr more) before =
         let is : n ≡ i = omega arith in
         let here : bit (f n) ≡ 0 = ap bit (ap f is ∙ e) in
         let rest : count f n ≤ n = count_most f n in
@@ -103,14 +103,14 @@ total_same f g (suc n) h =
 -- one term is another one
 total_but : (f g : ℕ → ℕ) (i n : ℕ) → i < n → ((k : ℕ) → (k ≡ i → ⊥) → g k ≡ f k) → total g n + f i ≡ total f n + g i
 total_but f g i zero l h = absurd (omega arith)
-total_but f g i (suc n) l h = by (cases_lt i n)
+total_but f g i (suc n) l h = by (cases_lt i n) (λ less. total_but f g i n less h)
   where
-    by : (i < n) ⊎ (n ≤ i) → total g (suc n) + f i ≡ total f (suc n) + g i
-    by (inl less) =
+    by : (i < n) ⊎ (n ≤ i) → (i < n → total g n + f i ≡ total f n + g i) → total g (suc n) + f i ≡ total f (suc n) + g i
+    by (inl less) before =
         let here : g n ≡ f n = h n (λ e. omega arith) in
-        let rest : total g n + f i ≡ total f n + g i = total_but f g i n less h in
+        let rest : total g n + f i ≡ total f n + g i = before less in
         omega arith
-    by (inr more) =
+    by (inr more) before =
         let is : n ≡ i = omega arith in
         let old : f n ≡ f i = ap f is in
         let new : g n ≡ g i = ap g is in
@@ -144,11 +144,11 @@ total_moved f g i j n li lj apart here there h =
 
 pub total_at : (f : ℕ → ℕ) (i n : ℕ) → i < n → f i ≤ total f n
 total_at f i zero l = absurd (omega arith)
-total_at f i (suc n) l = by (cases_lt i n)
+total_at f i (suc n) l = by (cases_lt i n) (λ less. total_at f i n less)
   where
-    by : (i < n) ⊎ (n ≤ i) → f i ≤ total f (suc n)
-    by (inl less) = let rest : f i ≤ total f n = total_at f i n less in omega arith
-    by (inr more) =
+    by : (i < n) ⊎ (n ≤ i) → (i < n → f i ≤ total f n) → f i ≤ total f (suc n)
+    by (inl less) before = let rest : f i ≤ total f n = before less in omega arith
+    by (inr more) before =
         let is : n ≡ i = omega arith in
         let same : f n ≡ f i = ap f is in
         omega arith
@@ -172,14 +172,14 @@ total_none f (suc n) h =
 -- no other term is more than 0
 pub total_one : (f : ℕ → ℕ) (i n : ℕ) → i < n → ((k : ℕ) → k < n → (k ≡ i → ⊥) → f k ≡ 0) → total f n ≡ f i
 total_one f i zero l h = absurd (omega arith)
-total_one f i (suc n) l h = by (cases_lt i n)
+total_one f i (suc n) l h = by (cases_lt i n) (λ less. total_one f i n less (λ k below o. h k (omega arith) o))
   where
-    by : (i < n) ⊎ (n ≤ i) → total f (suc n) ≡ f i
-    by (inl less) =
+    by : (i < n) ⊎ (n ≤ i) → (i < n → total f n ≡ f i) → total f (suc n) ≡ f i
+    by (inl less) before =
         let here : f n ≡ 0 = h n (omega arith) (λ e. omega arith) in
-        let rest : total f n ≡ f i = total_one f i n less (λ k below o. h k (omega arith) o) in
+        let rest : total f n ≡ f i = before less in
         omega arith
-    by (inr more) =
+    by (inr more) before =
         let is : n ≡ i = omega arith in
         let same : f n ≡ f i = ap f is in
         let rest : total f n ≡ 0 = total_none f n (λ k below. h k (omega arith) (λ e. omega arith)) in
@@ -187,13 +187,13 @@ total_one f i (suc n) l h = by (cases_lt i n)
 
 pub total_some : (f : ℕ → ℕ) (n : ℕ) → 0 < total f n → (i : ℕ) × (i < n) × (0 < f i)
 total_some f zero l = absurd (omega arith)
-total_some f (suc n) l = by (cases_lt 0 (f n))
+total_some f (suc n) l = by (cases_lt 0 (f n)) (λ some. total_some f n some)
   where
-    by : (0 < f n) ⊎ (f n ≤ 0) → (i : ℕ) × (i < suc n) × (0 < f i)
-    by (inl some) = let below : n < suc n = omega arith in (n, below, some)
-    by (inr none) =
+    by : (0 < f n) ⊎ (f n ≤ 0) → (0 < total f n → (i : ℕ) × (i < n) × (0 < f i)) → (i : ℕ) × (i < suc n) × (0 < f i)
+    by (inl some) before = let below : n < suc n = omega arith in (n, below, some)
+    by (inr none) before =
         let rest : 0 < total f n = omega arith in
-        let found : (i : ℕ) × (i < n) × (0 < f i) = total_some f n rest in
+        let found : (i : ℕ) × (i < n) × (0 < f i) = before rest in
         let less : found.0 < n = found.1 in
         let below : found.0 < suc n = omega arith in
         (found.0, below, found.2)

@@ -1,5 +1,5 @@
 -- What a whole run on points ends in.
-use Rattle.std.proofs.Common.{◌≡◌, ◌⊎◌, inl, inr, ℕ, zero, suc, ◌+◌, ◌<◌, ◌≤◌, ℤ, pos, Bool, true, false, if◌then◌else◌, Option, Some, None, List, [], ◌∷◌, ◌++◌, refl, sym, ap, subst, ◌∙◌, arith}
+use Rattle.std.proofs.Common.{◌≡◌, ◌⊎◌, inl, inr, ℕ, zero, suc, ◌+◌, ◌<◌, ◌≤◌, pos, Bool, true, false, if◌then◌else◌, Option, Some, None, List, [], ◌++◌, refl, sym, ap, ◌∙◌, arith}
 use Rattle.std.specs.Prelude.{unsigned_abs, ◌==◌}
 use Rattle.std.specs.List.{flat_map, range_with_len}
 use Rattle.std.proofs.lemmas.Bool.{cases_lt}
@@ -10,7 +10,6 @@ use Rattle.gx_base.specs.declared.items.Item.{Item}
 use Rattle.gx_base.specs.PointKind.{spot_at}
 use Rattle.gx_base.specs.States.{State, number_at}
 use Rattle.gx_base.specs.Worklists.{has_item}
-use Rattle.kd_points.specs.NearestPoints.{some_none}
 use Rattle.clustering.specs.Chain.{id_item}
 use Rattle.clustering.specs.CloudRooms.{point_in, cell_in}
 use Rattle.clustering.specs.ClusterReports.{commit_line, gone_line, there_line, left_line, if_left}
@@ -36,16 +35,16 @@ below a i l apart = by (cases_lt a i)
 
 flat_one : (f : ℕ → List ℕ) (i n a : ℕ) → a ≤ i → i < a + n → ((k : ℕ) → (k ≡ i → ⊥) → f k ≡ []) → flat_map f (range_with_len a n) ≡ f i
 flat_one f i zero a l m h = absurd (omega arith)
-flat_one f i (suc n) a l m h = flat_map-cons f a (range_with_len (a + 1) n) ∙ by (a == i) refl
+flat_one f i (suc n) a l m h = flat_map-cons f a (range_with_len (a + 1) n) ∙ by (a == i) refl (λ less. flat_one f i n (a + 1) less (omega arith) h)
   where
-    by : (b : Bool) → (a == i) ≡ b → f a ++ flat_map f (range_with_len (a + 1) n) ≡ f i
-    by true e =
+    by : (b : Bool) → (a == i) ≡ b → (a + 1 ≤ i → flat_map f (range_with_len (a + 1) n) ≡ f i) → f a ++ flat_map f (range_with_len (a + 1) n) ≡ f i
+    by true e rest =
         let is : a ≡ i = numbers_equal a i e in
         ap (λ (l : List ℕ). f a ++ l) (flat_none f (a + 1) n (λ k less. h k (λ same. omega arith))) ∙ append-nil (f a) ∙ ap f is
-    by false e =
+    by false e rest =
         let apart : a ≡ i → ⊥ = λ same. no_bool (a == i) (ap (λ (x : ℕ). x == i) same ∙ same_number i) e in
         let less : a + 1 ≤ i = below a i l apart in
-        ap (λ (l : List ℕ). l ++ flat_map f (range_with_len (a + 1) n)) (h a apart) ∙ flat_one f i n (a + 1) less (omega arith) h
+        ap (λ (l : List ℕ). l ++ flat_map f (range_with_len (a + 1) n)) (h a apart) ∙ rest less
 
 -- ---- one point is left
 

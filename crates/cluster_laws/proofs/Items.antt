@@ -1,7 +1,6 @@
 -- The items of points in a ready set.
-use Rattle.std.proofs.Common.{◌≡◌, ℤ, Bool, true, false, refl, sym, ap, ◌∙◌, List, [], ◌∷◌}
-use Rattle.std.specs.Prelude.{not, ◌&&◌, ◌||◌, pos}
-use Rattle.std.specs.Ordering.{int_eq}
+use Rattle.std.proofs.Common.{◌≡◌, ℤ, Bool, true, false, refl, ap, ◌∙◌, List, [], ◌∷◌}
+use Rattle.std.specs.Prelude.{not, ◌&&◌, ◌||◌}
 use Rattle.gx_base.specs.declared.items.Item.{Item}
 use Rattle.gx_base.specs.Worklists.{same_item, has_item, with_items, without_item}
 use Rattle.commit_book.proofs.ready.ReadySets.{has_item-first}

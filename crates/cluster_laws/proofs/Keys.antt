@@ -1,6 +1,6 @@
 -- The keys along a chain of points fall.
-use Rattle.std.proofs.Common.{◌≡◌, ℕ, ℤ, ◌+◌, ◌*◌, Bool, true, false, Option, Some, None, refl, sym, ap, subst, ◌∙◌, arith}
-use Rattle.std.specs.Prelude.{◌-ℤ◌, unsigned_abs, int_lt, cond, min}
+use Rattle.std.proofs.Common.{◌≡◌, ℕ, ℤ, ◌+◌, ◌*◌, true, false, Some, refl, ap, subst, ◌∙◌, arith}
+use Rattle.std.specs.Prelude.{◌-ℤ◌, unsigned_abs, min}
 use Rattle.std.specs.Ordering.{int_eq, is_gt, is_lt}
 use Rattle.std.specs.declared.cmp.Ordering.{Ordering}
 use Rattle.std.specs.declared.cmp.Ordering.TheVariants.{Less, Equal, Greater}
@@ -8,7 +8,7 @@ use Rattle.std.specs.Int.{int_min, int_max}
 use Rattle.std.proofs.lemmas.Int.{ints, clamps}
 use Rattle.gx_base.specs.declared.calls.Spot.{Spot}
 use Rattle.gx_base.specs.States.{State}
-use Rattle.gx_base.specs.Spots.{Key, pk, key_cmp, beyond, distance, square, far}
+use Rattle.gx_base.specs.Spots.{Key, pk, key_cmp, distance, square, far}
 use Rattle.gx_base.specs.PointKind.{spot_at, nearest}
 use Rattle.kd_points.specs.NearestPoints.{IsOther, IsNearest, nearest-is, pk-apart, key_cmp_total}
 use Rattle.cluster_laws.proofs.Takings.{apart_back, other_of}

@@ -1,5 +1,5 @@
 -- What two points that are each other's nearest become.
-use Rattle.std.proofs.Common.{◌≡◌, ℕ, ◌+◌, ℤ, pos, Bool, true, false, if◌then◌else◌, Option, Some, None, List, [], ◌∷◌, refl, sym, ap, subst, ◌∙◌}
+use Rattle.std.proofs.Common.{◌≡◌, ℕ, ℤ, pos, Bool, true, false, if◌then◌else◌, Option, Some, None, List, [], ◌∷◌, refl, sym, ap, subst, ◌∙◌}
 use Rattle.std.specs.Prelude.{◌+ℤ◌, ◌||◌, int_le, int_lt, cond}
 use Rattle.std.specs.Ordering.{int_eq}
 use Rattle.gx_base.specs.declared.calls.Spot.{Spot}
@@ -9,12 +9,12 @@ use Rattle.gx_base.specs.Plans.{Plan, Push, Done}
 use Rattle.gx_base.specs.PointKind.{spot_of, spot_at}
 use Rattle.gx_base.specs.SerialIterations.{body}
 use Rattle.gx_base.specs.States.{State, row_at, with_row, number_at, with_number}
-use Rattle.gx_base.specs.Steps.{next_state, reply_to}
-use Rattle.gx_base.proofs.CallerLemmas.{row_at-with, row_at-same, number_at-same, number_at-other, same_row, same_row-sort}
+use Rattle.gx_base.specs.Steps.{next_state}
+use Rattle.gx_base.proofs.CallerLemmas.{row_at-with, row_at-same, number_at-same, number_at-other, same_row-sort}
 use Rattle.kd_points.specs.NearestPoints.{spot_at-with}
 use Rattle.clustering.specs.declared.stages.Merge.{Merge}
 use Rattle.clustering.specs.PointCalls.{add, remove, read, set}
-use Rattle.clustering.specs.Chain.{id_item, weighing, with_first_weight, with_weights, merging, merge_of, into_key, weight_key, push_own}
+use Rattle.clustering.specs.Chain.{id_item, weighing, with_first_weight, with_weights, merging, merge_of, into_key, weight_key}
 use Rattle.cluster_laws.specs.MutualPairs.{AreMutual}
 use Rattle.cluster_laws.proofs.Calls.{ArePoints, AreCells, place, int_same, remove_next, add_next, next_read, reply_read, set_next}
 use Rattle.cluster_laws.proofs.Runs.{Same, same_then, looked}
@@ -26,9 +26,9 @@ pub weighs : (id : ℤ) (u v : Spot) (states : ℕ → State) (a b : ℤ) → Ar
     → Same (weighing id u v) (merging (merge_of id u a v b)) states
 weighs id u v states a b k e f positive =
     let first : Same (weighing id u v) (with_first_weight id u v a) states =
-        looked 1 (read u.id) (λ reply. with_first_weight id u v reply.p) states (number_reply a) (next_read (states 1) u.id k) (reply_read (states 1) u.id k ∙ ap number_reply e) in
+    looked 1 (read u.id) (λ reply. with_first_weight id u v reply.p) states (number_reply a) (next_read (states 1) u.id k) (reply_read (states 1) u.id k ∙ ap number_reply e) in
     let second : Same (with_first_weight id u v a) (with_weights id u a v b) states =
-        looked 1 (read v.id) (λ reply. with_weights id u a v reply.p) states (number_reply b) (next_read (states 1) v.id k) (reply_read (states 1) v.id k ∙ ap number_reply f) in
+    looked 1 (read v.id) (λ reply. with_weights id u a v reply.p) states (number_reply b) (next_read (states 1) v.id k) (reply_read (states 1) v.id k ∙ ap number_reply f) in
     let last : with_weights id u a v b ≡ merging (merge_of id u a v b) = ap (λ (t : Bool). if t then Done else merging (merge_of id u a v b)) positive in
     same_then (weighing id u v) (with_first_weight id u v a) (merging (merge_of id u a v b)) states first
     (subst (λ (plan : Plan). Same (with_first_weight id u v a) plan states) last second)
@@ -90,7 +90,7 @@ module _ (s : State) (m : Merge) (k : ArePoints s) (pair : AreMutual s m.first m
       let first : next_state s (remove m.first) ≡ without_first = remove_next s m.first k pair.first in
       let second : next_state without_first (remove m.second) ≡ without_both = remove_next without_first m.second k (still_there s m.first m.second apart pair.second) in
       let third : next_state without_both (add m.merged) ≡ with_row without_both (0, m.merged.id) (Some (place m.merged)) =
-          add_next without_both m.merged k (ap (λ (id : ℤ). row_at without_both (0, id)) own ∙ free) (ap (λ (id : ℤ). int_lt id (pos 0)) own ∙ low) flat in
+      add_next without_both m.merged k (ap (λ (id : ℤ). row_at without_both (0, id)) own ∙ free) (ap (λ (id : ℤ). int_lt id (pos 0)) own ∙ low) flat in
       ap (λ (t : State). next_state (next_state t (remove m.second)) (add m.merged)) first
       ∙ ap (λ (t : State). next_state t (add m.merged)) second
       ∙ third

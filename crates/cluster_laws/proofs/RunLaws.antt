@@ -1,13 +1,13 @@
 -- The laws of runs on points.
-use Rattle.std.proofs.Common.{◌≡◌, ℕ, ◌<◌, Some, List, [], ◌∷◌, ◌++◌, length, refl, sym, ap, subst, ◌∙◌}
+use Rattle.std.proofs.Common.{◌≡◌, ℕ, ◌<◌, List, [], ◌∷◌, length, sym, ap, subst, ◌∙◌}
 use Rattle.gx_base.specs.declared.calls.Spot.{Spot}
 use Rattle.gx_base.specs.declared.items.Item.{Item}
 use Rattle.gx_base.specs.Outcomes.{Outcome, WholeCommit, order_of, outcomes_of}
-use Rattle.gx_base.specs.SerialIterations.{Ran, body, Ended, ready_after, serial}
-use Rattle.gx_base.specs.SerialRuns.{IsSerialRun, IsSerialRunInTwo}
+use Rattle.gx_base.specs.SerialIterations.{Ran, body, Ended}
+use Rattle.gx_base.specs.SerialRuns.{IsSerialRunInTwo}
 use Rattle.gx_base.specs.States.{State}
 use Rattle.gx_base.specs.Worklists.{with_items}
-use Rattle.gx_base.proofs.CallerLemmas.{IsSerialRun-split, kind-next_state}
+use Rattle.gx_base.proofs.CallerLemmas.{IsSerialRun-split}
 use Rattle.gx_base.proofs.serial.Prefixes.{FirstTurn, first_turn, some_same}
 use Rattle.clustering.specs.PointFiles.{IsReadable}
 use Rattle.clustering.specs.Starts.{start_states, start_ready}
@@ -42,7 +42,7 @@ pub merge_mutual : (spots : List Spot) (commits : List WholeCommit) (ended : End
 merge_mutual spots commits ended run front rear c before is first =
     let op = chain_operator (length spots) in
     let split : IsSerialRunInTwo op (start_states spots) (with_items [] (start_ready spots)) front (c ∷ rear) ended =
-        IsSerialRun-split op (start_states spots) (with_items [] (start_ready spots)) front (c ∷ rear) ended (subst (λ (l : List WholeCommit). IsRunOn spots l ended) is run) in
+    IsSerialRun-split op (start_states spots) (with_items [] (start_ready spots)) front (c ∷ rear) ended (subst (λ (l : List WholeCommit). IsRunOn spots l ended) is run) in
     let same : before ≡ split.between = some_same (sym first.in_turn ∙ split.first_run.in_turn) in
     let ran : Ran = body (op.plan c.item) split.between.states in
     let turn : FirstTurn op split.between.states split.between.ready c.item (order_of rear) split.last = first_turn op split.between.states split.between.ready c.item (order_of rear) split.last split.second_run.in_turn in

@@ -1,5 +1,6 @@
 -- A body takes out no point, or two that are each other's nearest.
 use Rattle.std.proofs.Common.{◌≡◌, ℕ, zero, suc, ◌+◌, ℤ, pos, negsuc, Bool, true, false, if◌then◌else◌, Option, Some, None, List, [], ◌∷◌, refl, sym, ap, subst, ◌∙◌}
+use Rattle.std.specs.Prelude.{◌+ℤ◌, int_le}
 use Rattle.std.specs.Ordering.{int_eq}
 use Rattle.gx_base.specs.declared.calls.Reply.{Reply}
 use Rattle.gx_base.specs.declared.calls.Spot.{Spot}
@@ -7,20 +8,19 @@ use Rattle.gx_base.specs.declared.items.Item.{Item}
 use Rattle.gx_base.specs.declared.kinds.Kind.TheVariants.{Points}
 use Rattle.gx_base.specs.Kinds.{kind_number}
 use Rattle.gx_base.specs.Meanings.{number_reply}
-use Rattle.gx_base.specs.Plans.{Plan, Call, Push, Done}
+use Rattle.gx_base.specs.Plans.{Plan, Push, Done}
 use Rattle.gx_base.specs.PointKind as points
 use Rattle.gx_base.specs.PointKind.{spot_of, spot_at, nearest_reply}
 use Rattle.gx_base.specs.Replays.{put}
 use Rattle.gx_base.specs.SerialIterations.{body}
-use Rattle.gx_base.specs.Spots.{spot_of_reply}
-use Rattle.gx_base.specs.States.{State, row_at, with_row}
-use Rattle.gx_base.specs.Steps.{next_state, reply_to, meaning_of}
-use Rattle.gx_base.specs.RowActions.{same_numbers}
+use Rattle.gx_base.specs.States.{State, with_row}
+use Rattle.gx_base.specs.Steps.{next_state, reply_to}
 use Rattle.gx_base.proofs.CallerLemmas.{same_int}
-use Rattle.kd_points.specs.NearestPoints.{IsOther, IsNearest, nearest-is, spot_at-with, some_is}
+use Rattle.kind_tables.proofs.CallerLemmas.{int_eq-comm}
+use Rattle.kd_points.specs.NearestPoints.{IsOther, IsNearest, nearest-is, spot_at-with}
 use Rattle.clustering.specs.declared.stages.Merge.{Merge}
-use Rattle.clustering.specs.PointCalls.{points_room, nearest, remove, at, point_call}
-use Rattle.clustering.specs.Chain.{chase, with_nearest, going_to, merging_both, weighing, with_first_weight, with_weights, merging, remove_second, add_merged, push_own, merge_of, with_place, chain_body, chain_plan, is_of_id}
+use Rattle.clustering.specs.PointCalls.{points_room, nearest, remove, at, read}
+use Rattle.clustering.specs.Chain.{chase, with_nearest, going_to, merging_both, weighing, merging, add_merged, merge_of, with_place, chain_body, chain_plan, is_of_id}
 use Rattle.cluster_laws.specs.MutualPairs.{AreMutual, AreNoneOrMutual, taken_out}
 use Rattle.cluster_laws.proofs.Calls.{ArePoints, next_nearest, reply_nearest, next_at, reply_at, own_spot, remove_reply, remove_next}
 
@@ -61,19 +61,31 @@ merging-good s m states k e apart pair =
     let first : reply_to (states 0) (remove m.first) ≡ number_reply (pos 1) = ap (λ (t : State). reply_to t (remove m.first)) e ∙ remove_reply s m.first k pair.first in
     let after : next_state (states 0) (remove m.first) ≡ with_row s (0, m.first.id) None = ap (λ (t : State). next_state t (remove m.first)) e ∙ remove_next s m.first k pair.first in
     let second : reply_to (next_state (states 0) (remove m.first)) (remove m.second) ≡ number_reply (pos 1) =
-        ap (λ (t : State). reply_to t (remove m.second)) after ∙ remove_reply (with_row s (0, m.first.id) None) m.second k (still_there s m.first m.second apart pair.second) in
-    subst (λ (l : List Spot). AreNoneOrMutual s (with_taken (reply_to (states 0) (remove m.first)) m.first (with_taken (reply_to (next_state (states 0) (remove m.first)) (remove m.second)) m.second l))) (sym (rest_none m _))
+    ap (λ (t : State). reply_to t (remove m.second)) after ∙ remove_reply (with_row s (0, m.first.id) None) m.second k (still_there s m.first m.second apart pair.second) in
+    subst (λ (l : List Spot). AreNoneOrMutual s (with_taken (reply_to (states 0) (remove m.first)) m.first (with_taken (reply_to (next_state (states 0) (remove m.first)) (remove m.second)) m.second l))) (sym (rest_none m (put (put states 0 (next_state (states 0) (remove m.first))) 0 (next_state (next_state (states 0) (remove m.first)) (remove m.second)))))
     (both_taken s _ _ m.first m.second first second pair)
+
+-- the two weights that are read, and what is left then
+abbrev first_read : (ℕ → State) → Spot → ℤ
+first_read states u = (reply_to (states 1) (read u.id)).p
+
+abbrev second_read : (ℕ → State) → Spot → Spot → ℤ
+second_read states u v = (reply_to (next_state (states 1) (read u.id)) (read v.id)).p
+
+abbrev after_reads : (ℕ → State) → Spot → Spot → ℕ → State
+after_reads states u v = put (put states 1 (next_state (states 1) (read u.id))) 1 (next_state (next_state (states 1) (read u.id)) (read v.id))
 
 weighing-good : (s : State) (id : ℤ) (u v : Spot) (states : ℕ → State) → ArePoints s → states 0 ≡ s → int_eq v.id u.id ≡ false → AreMutual s u v → Good s (weighing id u v) states
 unfolding body
-weighing-good s id u v states k e apart pair = if_done s _ (merging (merge_of id u _ v _)) _ (merging-good s (merge_of id u _ v _) _ k e apart pair)
+weighing-good s id u v states k e apart pair =
+    if_done s (int_le (first_read states u +ℤ second_read states u v) (pos 0)) (merging (merge_of id u (first_read states u) v (second_read states u v))) (after_reads states u v)
+    (merging-good s (merge_of id u (first_read states u) v (second_read states u v)) (after_reads states u v) k e apart pair)
 
 pub swapped : (s : State) (u v : Spot) → AreMutual s u v → AreMutual s v u
 swapped s u v m = record { first = m.second; second = m.first; nearest_first = m.nearest_second; nearest_second = m.nearest_first }
 
 pub apart_back : (x y : ℤ) → int_eq x y ≡ false → int_eq y x ≡ false
-apart_back x y e = grind
+apart_back x y e = int_eq-comm y x ∙ e
 
 both-good : (s : State) (id : ℤ) (p c : Spot) (states : ℕ → State) (b : Bool) → ArePoints s → states 0 ≡ s → int_eq c.id p.id ≡ false → AreMutual s p c → Good s (if b then weighing id c p else weighing id p c) states
 both-good s id p c states true k e apart pair = weighing-good s id c p states k e (apart_back c.id p.id apart) (swapped s p c pair)
@@ -85,10 +97,6 @@ both-good s id p c states false k e apart pair = weighing-good s id p c states k
 abbrev pub Link : State → Option Spot → Spot → Type 0
 Link s None c = spot_at s c.id ≡ Some c
 Link s (Some p) c = (spot_at s c.id ≡ Some c) × (spot_at s p.id ≡ Some p) × (points.nearest s p ≡ Some c)
-
-is_there : (s : State) (o : Option Spot) (c : Spot) → Link s o c → spot_at s c.id ≡ Some c
-is_there s None c link = link
-is_there s (Some p) c link = link.0
 
 pub other_of : (s : State) (c q : Spot) → points.nearest s c ≡ Some q → IsOther s c q
 other_of s c q e = let is : IsNearest s c (Some q) = subst (IsNearest s c) e (nearest-is s c) in is.0
