@@ -42,9 +42,6 @@ no_memory_by Spent wanted tells none = absurd tells
 no_memory_by Kept wanted tells none = absurd tells
 no_memory_by NoMemory wanted tells none = inr refl
 
-never_ok : {A cause other : Type 0} (why : TableFault) (value : A) → FaultsWhere cause (BadTable why) (Ok value) → cause → other
-never_ok why value exact h = elim (exact.always h) [ inl e ↦ absurd (cc) | inr e ↦ absurd (cc) ]
-
 -- ---- the tables of both kinds
 
 abbrev BadPoints : Option (List ℕ) → TableFault → Type 0
@@ -74,26 +71,13 @@ points_refused {A} {B} for_points for_cells fault why one tells exact = record {
     always (inl bad) = both_told {A = A} {B = B} fault (BadTable why) ((exact why).always bad)
     always (inr bad) = by_one one bad
 
-pub cells_refused : {A B X : Type 0} (for_points for_cells : Option (List ℕ)) (table : X) (fault : RunFault) (why : TableFault) → FaultsWhere (BadPoints for_points why) (BadTable why) (Ok table)
-    → FaultsWhere {A = A} (BadCells for_cells why) (BadTable why) (Err fault) → FaultsWhere {A = B} (BadPoints for_points why ⊎ BadCells for_cells why) (BadTable why) (Err fault)
-cells_refused {A} {B} {X} for_points for_cells table fault why exact refused = record {
-  only = λ e. inr (refused.only (told {A = B} {B = A} fault (BadTable why) e));
-  always = λ bad. elim bad [ inl h ↦ never_ok why table exact h | inr h ↦ both_told {A = A} {B = B} fault (BadTable why) (refused.always h) ];
-}
-
-pub none_refused : {A X Y : Type 0} (for_points for_cells : Option (List ℕ)) (points : X) (cells : Y) (tables : A) (why : TableFault) → FaultsWhere (BadPoints for_points why) (BadTable why) (Ok points)
-    → FaultsWhere (BadCells for_cells why) (BadTable why) (Ok cells) → FaultsWhere (BadPoints for_points why ⊎ BadCells for_cells why) (BadTable why) (Ok tables)
-none_refused for_points for_cells points cells tables why first second = record {
-  only = λ e. absurd (cc);
-  always = λ bad. elim bad [ inl h ↦ never_ok why points first h | inr h ↦ never_ok why cells second h ];
+pub none_bad : {A : Type 0} (result : Result A RunFault) (why : TableFault) → FaultsWhere (BadPoints None why ⊎ BadCells None why) (BadTable why) result → FaultsWhere ⊥ (BadTable why) result
+none_bad result why exact = record {
+  only = λ e. elim (exact.only e) [ inl bad ↦ bad | inr bad ↦ bad ];
+  always = λ bad. absurd bad;
 }
 
 -- ---- the text of conditions
-
-pub wanted_by : (kind : Kind) → Contains cloud_kinds kind → (kind ≡ Points) ⊎ (kind ≡ Cells)
-wanted_by kind (zero, l, e) = inl (sym e)
-wanted_by kind (suc zero, l, e) = inr (sym e)
-wanted_by kind (suc (suc k), l, e) = absurd (omega arith)
 
 pub no_fault_in : (bytes : List ℕ) (kind : Kind) (line : ℕ) → IsTextOf bytes kind → IsFaultyConditions bytes line → ⊥
 no_fault_in bytes kind line text bad = no_fault_of_a_table cloud_kinds bytes kind text.rows line bad.fault text.is_table bad.is_first

@@ -1,5 +1,5 @@
 -- The run of a loop over its rooms is the loop's run by its schedule.
-use Rattle.std.proofs.Common.{◌≡◌, ℕ, suc, ◌+◌, ◌^◌, ◌<◌, Option, IfOk, Result, Ok, Err, List, [], ◌∷◌, map, slice_get, refl, sym, ap, subst, ◌∙◌, arith}
+use Rattle.std.proofs.Common.{◌≡◌, false, ℕ, suc, ◌+◌, ◌^◌, ◌<◌, Option, IfOk, Result, Ok, Err, List, [], ◌∷◌, map, slice_get, refl, sym, ap, subst, ◌∙◌, arith}
 use Rattle.std.specs.List.{All}
 use Rattle.gx_base.specs.Plans.{Operator}
 use Rattle.commit_book.specs.BookViews.{new_book}

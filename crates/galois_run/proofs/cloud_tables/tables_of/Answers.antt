@@ -1,6 +1,6 @@
 use Rattle.std.proofs.Common.{option_map}
 use Rattle.gx_base.specs.declared.tables.Table.{Table}
-use Rattle.galois_run.proofs.meanings.ClusterTables.{points_refused, cells_refused, none_refused}
+use Rattle.galois_run.proofs.meanings.ClusterTables.{points_refused}
 use Rattle.galois_run.proofs.cloud_tables.tables_of.Goals as goal
 
 pub returns-in-Err-clause-bad_table : goal.returns-in-Err-clause-bad_table
