@@ -2,15 +2,11 @@
 
 ghost use Rattle.std.specs.Prelude.{◌<◌};
 
-use crate::model_runs::{Draws, drawn_call};
-use abstract_locks::{CompileRefuse, LockScreen};
-use forward_gate::ForwardScreen;
-use gate_core::laws::shipped_tables_serve_gates;
-use gate_core::{Gate, GateRefuse, ScanScreen, Screen};
-use gx_base::{Call, Choice, Item, Kind, Reply, SeqType};
-use shared_sets::laws::shipped_tables_are_not_general;
-use shared_sets::{Cells, SharedSet, cells_methods, set_methods};
-use std::alloc::Global;
+use crate::screen_gates::{Gates, cells_gates, set_gates};
+use gate_core::{Gate, GateRefuse, Screen};
+use gx_base::{Call, Item, Reply, SeqType};
+use schedules::sched;
+use shared_sets::{cells_methods, set_methods};
 use std::test::Fail;
 
 const ITEM: Item = Item {
@@ -20,13 +16,7 @@ const ITEM: Item = Item {
     k3: 0,
 };
 
-/// Gates whose objects and tables are the same.
-#[derive(Drop)]
-struct Gates<T: SeqType> {
-    scanned: Gate<T, ScanScreen>,
-    logged: Gate<T, ForwardScreen>,
-    locked: Gate<T, LockScreen>,
-}
+const KEYS: u32 = 6;
 
 /// How many calls were let in and refused, and how many steps had another answer in one of the gates.
 #[derive(Clone, Copy, Drop)]
@@ -86,23 +76,34 @@ fn releases<T: SeqType>(gates: &mut Gates<T>, worker: u32, iter: u64) -> bool {
     gates.scanned.mark() == gates.locked.mark() && gates.logged.mark() == gates.locked.mark()
 }
 
-fn step<T: SeqType>(
+/// The call of a step: one of three methods, with a key and a number.
+fn call_of(step: u64, first_method: u32) -> Call
+    requires { first_method < 100 }
+{
+    let method = match sched(11, step, 3) {
+        0 => first_method,
+        1 => first_method + 1,
+        _ => first_method + 2,
+    };
+    let key = sched(12, step, KEYS) as i64;
+    let number = sched(13, step, 4) as i64 - 2;
+    Call::new(method, key, number, 0, 0)
+}
+
+fn take_step<T: SeqType>(
     gates: &mut Gates<T>,
-    draws: &mut Draws,
     counts: &mut Counts,
+    step: u64,
     first_method: u32,
 ) -> bool
     requires { first_method < 100 }
 {
-    let worker = draws.below(3) as u32;
-    let iter = draws.below(2);
-    match draws.below(10) {
+    let worker = sched(14, step, 3);
+    let iter = sched(15, step, 2) as u64;
+    match sched(16, step, 10) {
         0 => undoes(gates, worker, iter),
         1 => releases(gates, worker, iter),
-        _ => {
-            let call = drawn_call(draws, first_method);
-            calls(gates, counts, worker, iter, call)
-        }
+        _ => calls(gates, counts, worker, iter, call_of(step, first_method)),
     }
 }
 
@@ -114,55 +115,16 @@ fn have_same_entries<T: SeqType>(gates: &Gates<T>) -> bool {
 fn run<T: SeqType>(mut gates: Gates<T>, first_method: u32) -> Counts
     requires { first_method < 100 }
 {
-    let mut draws = Draws { state: 3 };
     let mut counts = Counts {
         admitted: 0,
         conflicts: 0,
         differing: 0,
     };
-    for _ in 0..10_000 {
-        let same = step(&mut gates, &mut draws, &mut counts, first_method);
+    for step in 0..10_000 {
+        let same = take_step(&mut gates, &mut counts, step, first_method);
         counts.compare(same && have_same_entries(&gates));
     }
     counts
-}
-
-fn set_gates(alloc: Global) -> Result<Gates<SharedSet>, CompileRefuse> {
-    shipped_tables_serve_gates::<SharedSet>();
-    shipped_tables_are_not_general();
-    let table = SharedSet::shipped(alloc, Kind::Set, Choice::Simple)?;
-    let locks = LockScreen::new(alloc, Kind::Set, &table)?;
-    let locked = Gate::new(alloc, SharedSet::new(alloc), Kind::Set, table, locks);
-    let table = SharedSet::shipped(alloc, Kind::Set, Choice::Simple)?;
-    let screen = ForwardScreen::new();
-    let logged = Gate::new(alloc, SharedSet::new(alloc), Kind::Set, table, screen);
-    let table = SharedSet::shipped(alloc, Kind::Set, Choice::Simple)?;
-    let screen = ScanScreen::new();
-    let scanned = Gate::new(alloc, SharedSet::new(alloc), Kind::Set, table, screen);
-    Ok(Gates {
-        scanned,
-        logged,
-        locked,
-    })
-}
-
-fn cells_gates(alloc: Global) -> Result<Gates<Cells>, CompileRefuse> {
-    shipped_tables_serve_gates::<Cells>();
-    shipped_tables_are_not_general();
-    let table = Cells::shipped(alloc, Kind::Cells, Choice::Simple)?;
-    let locks = LockScreen::new(alloc, Kind::Cells, &table)?;
-    let locked = Gate::new(alloc, Cells::new(alloc), Kind::Cells, table, locks);
-    let table = Cells::shipped(alloc, Kind::Cells, Choice::Simple)?;
-    let screen = ForwardScreen::new();
-    let logged = Gate::new(alloc, Cells::new(alloc), Kind::Cells, table, screen);
-    let table = Cells::shipped(alloc, Kind::Cells, Choice::Simple)?;
-    let screen = ScanScreen::new();
-    let scanned = Gate::new(alloc, Cells::new(alloc), Kind::Cells, table, screen);
-    Ok(Gates {
-        scanned,
-        logged,
-        locked,
-    })
 }
 
 #[test]

@@ -16,7 +16,10 @@ const ITEM: Item = Item {
 };
 
 /// A gate under the simple table on a set that holds 5, or none.
-fn locked_set(alloc: Global, holds: bool) -> Result<Gate<SharedSet, LockScreen>, CompileRefuse> {
+pub(crate) fn locked_set(
+    alloc: Global,
+    holds: bool,
+) -> Result<Gate<SharedSet, LockScreen>, CompileRefuse> {
     let table = SharedSet::shipped(alloc, Kind::Set, Choice::Simple)?;
     let locks = LockScreen::new(alloc, Kind::Set, &table)?;
     shipped_tables_serve_gates::<SharedSet>();
