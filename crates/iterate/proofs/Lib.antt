@@ -25,3 +25,4 @@ pub mod FinishTurns
 pub mod LogRooms
 pub mod CommitTurns
 pub mod GoTurns
+pub mod PlacedRooms
