@@ -10,6 +10,7 @@ pub mod LoneRuns
 pub mod Turning
 pub mod BookTurns
 pub mod GateVisits
+pub mod MovedGates
 pub mod NestedVisits
 pub mod UndoTurns
 pub mod ShownTurns

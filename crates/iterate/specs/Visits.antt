@@ -13,6 +13,7 @@ use Rattle.rooms.specs.declared.values.Value.TheVariants.{Object, Book}
 use Rattle.iterate.specs.Places.{gate_of, IfTold}
 use Rattle.iterate.specs.RoomLists.{is_among, AreRoomsRising, AreRoomsBelow}
 use Rattle.iterate.specs.SessionViews.{Core}
+use Rattle.iterate.specs.TurnMoves.{gates_visited}
 use Rattle.iterate.specs.declared.session.Phase.{Phase as CodePhase}
 use Rattle.iterate.specs.declared.session.Phase.TheVariants as code
 
@@ -31,12 +32,12 @@ pub record MayLeaveBook {V : Type 0} (view : RoomsView V) (book : BookView) : Ty
 -- a gate was entered, and left as this one
 pub record WasVisited {T S : Type 0} (before after : RoomsView (Value T S)) (room : ℕ) (was now : GateView) : Type 0 where
   pub handed : IsHandedOut tells before room (Object was)
-  pub visit : after ≡ left tells (entered before room (tells {T = T} {S = S} (Object was))) room (Object now)
+  pub visit : after ≡ left tells (entered tells before room (Object was)) room (Object now)
 
 -- the book was entered, and left as this one
 pub record BookWasVisited {T S : Type 0} (before after : RoomsView (Value T S)) (was now : BookView) : Type 0 where
   pub handed : IsHandedOut tells before before.book (Book was)
-  pub visit : after ≡ left tells (entered before before.book (tells {T = T} {S = S} (Book was))) before.book (Book now)
+  pub visit : after ≡ left tells (entered tells before before.book (Book was)) before.book (Book now)
 
 -- an iteration has given up: it has calls to take back, or else its item is put back, or that is still to be done as the book was held
 pub data GaveUp {T S St : Type 0} (before after : RoomsView (Value T S)) (old new : Core) (phase : CodePhase St) : Type 0 where
@@ -59,6 +60,7 @@ pub record AreReleased {T S : Type 0} (before after : RoomsView (Value T S)) (wo
   pub held : after.held ≡ before.held
   pub released : (room : ℕ) → is_among rooms room ≡ false → after.released room ≡ before.released room
   pub lost : after.lost ≡ before.lost
+  pub moves : after.moves ≡ gates_visited was (λ room. release (was room) worker iter number) rooms before.moves
 
 -- what is asked of rooms in which an iteration is to be released
 pub record MayRelease {V : Type 0} (view : RoomsView V) (number : ℕ) (left : List ℕ) : Type 0 where

@@ -1,5 +1,5 @@
 ghost use Rattle.std.specs.Prelude.{◌≡◌, ◌<◌, ◌^◌, ℕ, true, false, [], length, map, slice_get, slice_set, Some};
-ghost use Rattle.rooms.specs.RoomsViews.{is_held};
+ghost use Rattle.rooms.specs.RoomsViews.{is_held, enters, leaves};
 ghost use Rattle.rooms.specs.Visits.{AreGatesAndBook, AreTold, view_of};
 
 use crate::history::History;
@@ -79,7 +79,7 @@ impl<V: Vacant> VecRooms<V> {
         requires in_range { room ≤ (view_of V.told self.old).book }
         requires free { is_held (view_of V.told self.old) room ≡ false }
         ensures value { IsHandedOut V.told (view_of V.told self.old) room result }
-        ensures moved { self.new ≡ record self.old { moves = record { was_left = false; room = room; value = result } ∷ self.old.moves } }
+        ensures moved { self.new ≡ record self.old { moves = enters room result ∷ self.old.moves } }
     {
         let vacant = V::vacant(self.alloc);
         let value = exchange(&mut self.values, room, vacant);
@@ -91,7 +91,7 @@ impl<V: Vacant> VecRooms<V> {
     fn take_back(&mut self, room: Room, value: V)
         requires held { is_held (view_of V.told self.old) room ≡ true }
         requires value { MayBeLeft (view_of V.told self.old) room (V.told value) }
-        ensures { self.new ≡ record self.old { moves = record { was_left = true; room = room; value = value } ∷ self.old.moves } }
+        ensures { self.new ≡ record self.old { moves = leaves room value ∷ self.old.moves } }
     {
         self.history = self.history.and_left(room, &value);
         put_at(&mut self.values, room, value);
