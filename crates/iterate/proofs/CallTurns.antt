@@ -20,7 +20,7 @@ use Rattle.speculation.specs.Machines.{Place, Turned, answer, conflict, live_at,
 use Rattle.speculation.specs.Sessions.{Running, undoing, undone_to, with_call, has_no_step}
 use Rattle.speculation.proofs.Putting.{no_bool, both_are, same_number}
 use Rattle.speculation.proofs.GateTurns.{log_admits, log_elsewhere}
-use Rattle.rooms.specs.RoomsViews.{RoomsView, visited, is_held}
+use Rattle.rooms.specs.RoomsViews.{RoomsView, visited}
 use Rattle.rooms.specs.HandedOut.{IsLost}
 use Rattle.rooms.specs.declared.values.Value.{Value}
 use Rattle.rooms.specs.declared.values.Value.TheVariants.{Object}
@@ -295,13 +295,3 @@ module _ {T S St : Type 0} (op : Operator) (a b : RoomsView (Value T S)) (rest :
       stopped_turn op a x b rest c asking plan (Some room) refl gates (λ bk in_book o. gate_stands op a a asking room was (same_gates a) visit.handed fit refl (below fit) bk in_book o) fit
       (quiet_visit a x room was visit (below fit) (free_of op a asking fit refl)) needs_book
       (λ lost bk now e. in_gate room (same_number room) (e ∙ ap (puts_back a.book gates gates bk now c.log lost) (as_it_was x was visit))) new phase gave_up
-
--- what a session that has asked a call holds, and where its call is
-pub asking_free : {T S St : Type 0} (op : Operator) (a : RoomsView (Value T S)) (rest : Rests St) (c : Core) (f : CodePhase St) (st : St) (room : ℕ) (call : CallOf) → f ≡ code.Asking st room call → IsFit op a (view_in rest c f)
-    → (other : ℕ) → is_held a other ≡ false
-asking_free op a rest c f st room call e fit = free_of op a (view_in rest c (code.Asking st room call)) (subst (λ x. IsFit op a (view_in rest c x)) e fit) refl
-
-pub asking_below : {T S St : Type 0} (op : Operator) (a : RoomsView (Value T S)) (rest : Rests St) (c : Core) (f : CodePhase St) (st : St) (room : ℕ) (call : CallOf) → f ≡ code.Asking st room call → IsFit op a (view_in rest c f) → room < a.book
-asking_below op a rest c f st room call e fit =
-    let h : IsFit op a (view_in rest c (code.Asking st room call)) = subst (λ x. IsFit op a (view_in rest c x)) e fit in
-    subst (λ n. room < n) (sym h.book) (body_of op a (view_in rest c (code.Asking st room call)) h refl).1

@@ -31,7 +31,7 @@ use Rattle.iterate.specs.Places.{IsLogIn, IsLogOf, IsFit, AreStepsWithin, IfTold
 use Rattle.iterate.specs.RoomLists.{is_among, rooms_of, steps_in, AreRoomsBelow}
 use Rattle.iterate.specs.SessionViews.{OpenCommit, Rests, Core, SessionView, view_in}
 use Rattle.iterate.specs.SharedTurns.{Shared, shared_in, released, stays, cut_at, cut_commit, begun_commit, rest_of_commit}
-use Rattle.iterate.specs.TurnMoves.{Moves, at_book, enters_book, releases, moves_by, turn_moves}
+use Rattle.iterate.specs.TurnMoves.{RoomMoves, at_book, enters_book, releases, moves_by, turn_moves}
 use Rattle.iterate.specs.Turns.{TakesTurn, HasTurned, Answers, HasMoved, IsAfter, TellsRight, event_of, limit_on, is_commit}
 use Rattle.iterate.proofs.Standing.{told_book}
 use Rattle.iterate.proofs.Visiting.{other_than_book}
@@ -220,8 +220,8 @@ module _ {T S St : Type 0} (op : Operator) (a b : RoomsView (Value T S)) (rest :
         → b.moves ≡ releases a.book gates q.gates was q.book left lost (enters_book a.book gates q.gates was q.book a.moves) → HasMoved a.book finished (record { gates = gates; book = was; session = finished.at }) q lost (Ok e) a.moves b.moves
     lift_moved gates q t e None n h m = subst (λ (v : Event). b.moves ≡ moves_by a.book gates q.gates was q.book c.worker finished.at None v a.moves) (sym h.event_is) m
     lift_moved gates q t e (Some room) n h m =
-        let cut : Moves T S = releases a.book gates q.gates was q.book left (Some room) (enters_book a.book gates q.gates was q.book a.moves) in
-        let visit : Moves T S = at_book a.book gates q.gates was q.book a.moves in
+        let cut : RoomMoves T S = releases a.book gates q.gates was q.book left (Some room) (enters_book a.book gates q.gates was q.book a.moves) in
+        let visit : RoomMoves T S = at_book a.book gates q.gates was q.book a.moves in
         subst (λ (v : Event). b.moves ≡ moves_by a.book gates q.gates was q.book c.worker finished.at (Some room) v a.moves) (sym h.event_is)
         (m ∙ sym (ap (λ (k : Bool). if k then a.moves else (if is_named was c.worker c.iter then visit else cut)) (n room refl) ∙ ap (λ (k : Bool). if k then visit else cut) unnamed_is))
 

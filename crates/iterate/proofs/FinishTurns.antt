@@ -32,6 +32,7 @@ use Rattle.iterate.specs.RoomLists.{is_among, rooms_of}
 use Rattle.iterate.specs.SessionViews.{Rests, Core, SessionView, view_in}
 use Rattle.iterate.specs.SharedTurns.{Shared, cut_at, cut_commit, begun_commit, stays}
 use Rattle.iterate.specs.TurnMoves.{at_book, enters_book, releases, in_book}
+use Rattle.iterate.specs.Visits.{answer_to, gives_up, pushes_kept}
 use Rattle.iterate.specs.Turns.{TakesTurn, Answers, HasMoved, IsAfter, IsCause, MayLose, limit_on}
 use Rattle.iterate.proofs.Standing.{base_place}
 use Rattle.iterate.proofs.Turning.{whole, lost_moves}
@@ -176,7 +177,7 @@ module _ {T S St : Type 0} (op : Operator) (a b : RoomsView (Value T S)) (rest :
         → VisitMoves r → TakesTurn op a b finished (view_in rest new phase) r
     give_turn r ans_calls ans_over moved = give_by r ans_calls ans_over moved (has_no_step c.log) refl
 
-    pub drop_turn : pushes ≡ c.pushes → is_named was c.worker c.iter ≡ false → was.ordered ≡ false → has_item was.ready c.item ≡ false → TakesTurn op a b finished (view_in rest new phase) (Ok events.Drop)
+    drop_turn : pushes ≡ c.pushes → is_named was c.worker c.iter ≡ false → was.ordered ≡ false → has_item was.ready c.item ≡ false → TakesTurn op a b finished (view_in rest new phase) (Ok events.Drop)
     drop_turn same n o r =
         let u : Turned = record { event = event.Drop; place = given_up p c.worker finished.at } in
         let turns : turn_at op p c.worker ≡ u = finishes p.gates was false n o r in
@@ -198,7 +199,7 @@ module _ {T S St : Type 0} (op : Operator) (a b : RoomsView (Value T S)) (rest :
     stop_moves stops.Kept now t e = e
     stop_moves stops.NoMemory now t e = in_book refl e
 
-    pub stop_turn : (stop : Stop) → pushes ≡ [] → IsCause stop (limit_on op p c.worker) → TakesTurn op a b finished (view_in rest new phase) (Err stop)
+    stop_turn : (stop : Stop) → pushes ≡ [] → IsCause stop (limit_on op p c.worker) → TakesTurn op a b finished (view_in rest new phase) (Err stop)
     stop_turn stop none cause = give_turn (Err stop)
         (λ e. record {
           may = refl;
@@ -220,7 +221,22 @@ module _ {T S St : Type 0} (op : Operator) (a b : RoomsView (Value T S)) (rest :
         (stop_moves stop)
 
     -- the limit that the commit would pass
-    pub passes : (spent past : Bool) → is_named was c.worker c.iter ≡ false → was.ordered ≡ false → has_item was.ready c.item ≡ true → is_spent was ≡ spent → is_past_journal was (length c.log) ≡ past
+    passes : (spent past : Bool) → is_named was c.worker c.iter ≡ false → was.ordered ≡ false → has_item was.ready c.item ≡ true → is_spent was ≡ spent → is_past_journal was (length c.log) ≡ past
         → limit_on op p c.worker ≡ (if spent then Some limit.Spent else (if past then Some limit.Kept else None))
     passes spent past n o r s j =
         ap (λ (u : Turned). limit_at u.event was (length c.log)) (finishes p.gates was true n o r) ∙ (λ i. if s i then Some limit.Spent else (if j i then Some limit.Kept else None))
+
+  -- a book refuses the commit
+  pub refused_turn : (x : RoomsView (Value T S)) → IsFit op a finished → (was book_now : BookView) (new : Core) (phase : CodePhase St) (refuse : CommitRefuse) → IsHandedOut tells a a.book (Book was) → x ≡ entered tells a a.book (Book was)
+      → b ≡ rooms_left tells x x.book (Book book_now) → is_named was c.worker c.iter ≡ false → was.ordered ≡ false → Because refuse (has_item was.ready c.item) (is_spent was) (is_past_journal was (length c.log))
+      → (gives_up refuse ≡ true → has_no_step c.log ≡ false → (book_now ≡ was) × (new ≡ record c { pushes = pushes_kept refuse c.pushes }) × (phase ≡ code.Undoing))
+      → (gives_up refuse ≡ true → has_no_step c.log ≡ true → (book_now ≡ put_back was c.worker c.iter) × (new ≡ over c) × (phase ≡ code.Idle)) → TakesTurn op a b finished (view_in rest new phase) (answer_to refuse)
+  refused_turn x fit was book_now new phase NotReady handed enters leaves n o why calls overs = drop_turn x fit was book_now new phase c.pushes handed enters leaves (calls refl) (overs refl) refl n o why
+  refused_turn x fit was book_now new phase (NotLeast least) handed enters leaves n o why calls overs = absurd why
+  refused_turn x fit was book_now new phase Spent handed enters leaves n o why calls overs =
+      stop_turn x fit was book_now new phase [] handed enters leaves (calls refl) (overs refl) stops.Spent refl
+      (passes x fit was book_now new phase [] handed enters leaves (calls refl) (overs refl) true (is_past_journal was (length c.log)) n o why.0 why.1 refl)
+  refused_turn x fit was book_now new phase Kept handed enters leaves n o why calls overs =
+      stop_turn x fit was book_now new phase [] handed enters leaves (calls refl) (overs refl) stops.Kept refl
+      (passes x fit was book_now new phase [] handed enters leaves (calls refl) (overs refl) false true n o why.0 why.1 why.2)
+  refused_turn x fit was book_now new phase NoMemory handed enters leaves n o why calls overs = stop_turn x fit was book_now new phase [] handed enters leaves (calls refl) (overs refl) stops.NoMemory refl tt

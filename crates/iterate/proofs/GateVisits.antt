@@ -19,7 +19,7 @@ use Rattle.iterate.specs.declared.events.Event.{Event as CodeEvent}
 use Rattle.iterate.specs.declared.events.Stop.{Stop}
 use Rattle.iterate.specs.Places.{IsLogOf, IsFit, AreStepsWithin, IsFitIn, gate_of, book_of, IfTold, IsBookIn, StandsOn}
 use Rattle.iterate.specs.SessionViews.{OpenCommit, SessionView}
-use Rattle.iterate.specs.TurnMoves.{Moves}
+use Rattle.iterate.specs.TurnMoves.{RoomMoves}
 use Rattle.iterate.specs.Turns.{OthersStay, Answers, HasMoved, TakesTurn, IsLostIn}
 use Rattle.iterate.specs.Visits.{WasVisited}
 use Rattle.iterate.proofs.Logs.{log_shown}
@@ -92,7 +92,7 @@ module _ {T S : Type 0} where
   -- ---- a visit of one gate alone
 
   -- the gates that a place has before and after it
-  pub visited_at : (a : RoomsView (Value T S)) (room : ℕ) (was now : GateView) (moves : Moves T S) → visited room (Object was) (Object now) moves ≡ visited room (Object (put (base_gates a) room was room)) (Object (put (put (base_gates a) room was) room now room)) moves
+  pub visited_at : (a : RoomsView (Value T S)) (room : ℕ) (was now : GateView) (moves : RoomMoves T S) → visited room (Object was) (Object now) moves ≡ visited room (Object (put (base_gates a) room was room)) (Object (put (put (base_gates a) room was) room now room)) moves
   visited_at a room was now moves = λ i. visited room (Object (sym (put_same (base_gates a) room was) i)) (Object (sym (put_same (put (base_gates a) room was) room now) i)) moves
 
   pub gate_visited : (a x b : RoomsView (Value T S)) (room : ℕ) (was left_as now : GateView) → IsHandedOut tells a room (Object was) → x ≡ entered tells a room (Object was) → b ≡ left tells x room (Object left_as) → left_as ≡ now

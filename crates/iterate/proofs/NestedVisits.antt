@@ -14,7 +14,7 @@ use Rattle.rooms.specs.declared.values.Value.TheVariants.{Object, Book}
 use Rattle.rooms.proofs.CallerLemmas.{put_same, put_other, held_elsewhere}
 use Rattle.iterate.specs.Needs.{needs}
 use Rattle.iterate.specs.SessionViews.{SessionView}
-use Rattle.iterate.specs.TurnMoves.{Moves}
+use Rattle.iterate.specs.TurnMoves.{RoomMoves}
 use Rattle.iterate.specs.Turns.{IsLostIn}
 use Rattle.iterate.specs.Places.{book_of, IfTold, IsBookIn}
 use Rattle.iterate.specs.Visits.{WasVisited, BookWasVisited}
@@ -55,7 +55,7 @@ module _ {T S : Type 0} (a x y b : RoomsView (Value T S)) (room : ℕ) (seen now
   nested_lost other = b_of (λ v. v.lost other) ∙ y_of (λ v. v.lost other) ∙ x_of (λ v. v.lost other)
 
   pub nested_moves : b.moves ≡ exit a.book (Book now) ∷ visited room (Object was) (Object is) (entry a.book (Book seen) ∷ a.moves)
-  nested_moves = b_of (λ v. v.moves) ∙ (λ i. exit (y_book i) (Book now) ∷ y_of (λ v. v.moves) i) ∙ ap (λ (ms : Moves T S). exit a.book (Book now) ∷ visited room (Object was) (Object is) ms) (x_of (λ v. v.moves))
+  nested_moves = b_of (λ v. v.moves) ∙ (λ i. exit (y_book i) (Book now) ∷ y_of (λ v. v.moves) i) ∙ ap (λ (ms : RoomMoves T S). exit a.book (Book now) ∷ visited room (Object was) (Object is) ms) (x_of (λ v. v.moves))
 
   module _ (free : (other : ℕ) → is_held a other ≡ false) where
     x_free : (other : ℕ) → (a.book == other) ≡ false → is_held x other ≡ false

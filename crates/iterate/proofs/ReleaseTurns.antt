@@ -27,7 +27,7 @@ use Rattle.iterate.specs.Places.{IsLogIn, IsLogOf, IsFit, IsFitIn, IsCommitOf, A
 use Rattle.iterate.specs.RoomLists.{is_among, steps_in, before, on_from, AreRoomsRising, AreRoomsBelow}
 use Rattle.iterate.specs.SessionViews.{OpenCommit, Rests, Core, SessionView, view_in}
 use Rattle.iterate.specs.SharedTurns.{released}
-use Rattle.iterate.specs.TurnMoves.{Moves, gates_visited}
+use Rattle.iterate.specs.TurnMoves.{RoomMoves, gates_visited}
 use Rattle.iterate.specs.Turns.{OthersStay, TakesTurn}
 use Rattle.iterate.specs.Visits.{AreReleased, IsReleaseCutShort, MayLeaveBook}
 use Rattle.iterate.proofs.Logs.{log_sound, sound_log, log_shown, others_release}
@@ -84,7 +84,7 @@ module _ {T S : Type 0} (op : Operator) (a mid b : RoomsView (Value T S)) (s t :
   q_released room e = ap (λ (c : Bool). if c then release (gates_then room) s.worker iter number else gates_then room) e ∙ ap (λ g. release g s.worker iter number) (then_was room e)
 
   -- the gates were entered and left so
-  pub release_moves : (moves : Moves T S) → gates_visited h.was (λ room. release (h.was room) s.worker iter number) front moves ≡ gates_visited gates_then (released gates_then front s.worker iter number) front moves
+  pub release_moves : (moves : RoomMoves T S) → gates_visited h.was (λ room. release (h.was room) s.worker iter number) front moves ≡ gates_visited gates_then (released gates_then front s.worker iter number) front moves
   release_moves moves = visited_same h.was (λ room. release (h.was room) s.worker iter number) gates_then (released gates_then front s.worker iter number) front (λ room e. sym (then_was room e)) (λ room e. sym (q_released room e)) moves
 
   module _ (same_iter : t.at.iter ≡ s.at.iter) (same_item : t.at.item ≡ s.at.item) (same : t.worker ≡ s.worker) (gone : (room : ℕ) → is_among front room ≡ true → part room t.at.outcome.steps ≡ [])
@@ -247,7 +247,7 @@ module _ {T S St : Type 0} (op : Operator) (a b : RoomsView (Value T S)) (rest :
             (no_loss a b s (λ room. ap (λ (v : RoomsView (Value T S)). v.lost room) leaves ∙ ap (λ f. f room) h.lost)) (Ok (events.Commit number))
             (record { event_is = refl; place_is = refl; opened_is = refl; pushed_is = refl }, tt, tt)
             (ap (λ (v : RoomsView (Value T S)). v.moves) leaves ∙ (λ i. exit (h.book i) (Book book) ∷ h.moves i)
-            ∙ ap (λ (ms : Moves T S). exit a.book (Book book) ∷ ms) (release_moves op a mid b s t left c.iter number fit h after refl below a.moves));
+            ∙ ap (λ (ms : RoomMoves T S). exit a.book (Book book) ∷ ms) (release_moves op a mid b s t left c.iter number fit h after refl below a.moves));
         is_fit = fits a b s t p q l fit.acts refl op fit tt (b_free mid fit h leaves, refl);
       }
 

@@ -3,7 +3,6 @@ use Rattle.std.specs.Prelude.{◌≡◌, ◌⊎◌, ℕ, ◌<◌, Bool, true, fa
 use Rattle.std.proofs.Common.{sym, ◌∙◌, ap, subst, inl, inr, arith}
 use Rattle.gx_base.specs.declared.acts.Entry.{Entry}
 use Rattle.gx_base.specs.Replays.{put}
-use Rattle.gx_base.specs.RoomViews.{RoomView}
 use Rattle.gx_base.specs.Entries.{entries_by}
 use Rattle.gate_core.specs.Views.{GateView}
 use Rattle.commit_book.specs.BookViews.{BookView}

@@ -1,9 +1,10 @@
 -- How the parts of a turn change rooms.
-use Rattle.std.specs.Prelude.{◌≡◌, ◌⊎◌, ◌<◌, ◌-◌, ◌^◌, ◌==◌, if◌then◌else◌, ℕ, true, false, Option, Some, None, Result, Ok, Err, List, [], ◌∷◌, ◌++◌}
+use Rattle.std.specs.Prelude.{◌≡◌, ◌⊎◌, ◌<◌, ◌-◌, ◌^◌, ◌==◌, if◌then◌else◌, ℕ, Bool, true, false, Option, Some, None, Result, Ok, Err, List, [], ◌∷◌, ◌++◌}
+use Rattle.gx_base.specs.declared.items.Item.{Item}
 use Rattle.gate_core.specs.Views.{GateView, release}
 use Rattle.commit_book.specs.BookViews.{BookView, put_back}
 use Rattle.commit_book.specs.declared.refusals.CommitRefuse.{CommitRefuse}
-use Rattle.commit_book.specs.declared.refusals.CommitRefuse.TheVariants.{NoMemory}
+use Rattle.commit_book.specs.declared.refusals.CommitRefuse.TheVariants.{NotReady, NotLeast, Spent, Kept, NoMemory}
 use Rattle.speculation.specs.Sessions.{has_no_step}
 use Rattle.rooms.specs.HandedOut.{IsHandedOut, IsLost, MayHaveMark, MayHaveCommits}
 use Rattle.rooms.specs.RoomsViews.{RoomsView, is_held, commits_entered, entries_for, told_with, entered, left}
@@ -14,6 +15,10 @@ use Rattle.iterate.specs.Places.{gate_of, IfTold}
 use Rattle.iterate.specs.RoomLists.{is_among, AreRoomsRising, AreRoomsBelow}
 use Rattle.iterate.specs.SessionViews.{Core}
 use Rattle.iterate.specs.TurnMoves.{gates_visited}
+use Rattle.iterate.specs.declared.events.Event.{Event as CodeEvent}
+use Rattle.iterate.specs.declared.events.Event.TheVariants as events
+use Rattle.iterate.specs.declared.events.Stop.{Stop}
+use Rattle.iterate.specs.declared.events.Stop.TheVariants as stops
 use Rattle.iterate.specs.declared.session.Phase.{Phase as CodePhase}
 use Rattle.iterate.specs.declared.session.Phase.TheVariants as code
 
@@ -86,3 +91,29 @@ pub record IsReleaseCutShort {T S : Type 0} (before after : RoomsView (Value T S
 abbrev pub MayAnswer : Option CommitRefuse → Result (ℕ × List ℕ) CommitRefuse → Type 0
 MayAnswer why (Ok answer) = why ≡ None
 MayAnswer why (Err refuse) = (why ≡ Some refuse) ⊎ (refuse ≡ NoMemory)
+
+-- ---- a book that refuses a commit
+
+-- what a turn answers then
+abbrev pub answer_to : CommitRefuse → Result CodeEvent Stop
+answer_to NotReady = Ok events.Drop
+answer_to (NotLeast least) = Ok events.Wait
+answer_to Spent = Err stops.Spent
+answer_to Kept = Err stops.Kept
+answer_to NoMemory = Err stops.NoMemory
+
+-- the iteration has to undo, or is over where it has no calls
+abbrev pub gives_up : CommitRefuse → Bool
+gives_up NotReady = true
+gives_up (NotLeast least) = false
+gives_up Spent = true
+gives_up Kept = true
+gives_up NoMemory = true
+
+-- one that stops has no pushes then
+abbrev pub pushes_kept : CommitRefuse → List Item → List Item
+pushes_kept NotReady pushes = pushes
+pushes_kept (NotLeast least) pushes = pushes
+pushes_kept Spent pushes = []
+pushes_kept Kept pushes = []
+pushes_kept NoMemory pushes = []

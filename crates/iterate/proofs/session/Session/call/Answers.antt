@@ -11,7 +11,7 @@ use Rattle.iterate.specs.declared.events.Stop.TheVariants as stops
 use Rattle.iterate.specs.declared.session.Phase.TheVariants as code
 use Rattle.iterate.proofs.ShownTurns.{shown}
 use Rattle.iterate.proofs.GateVisits.{gate_visited}
-use Rattle.iterate.proofs.CallTurns.{asking_as, noted_as, noted, asking_free, asking_below, call_lost, call_turn, conflict_turn, stop_turn, stop_in_gate}
+use Rattle.iterate.proofs.CallTurns.{asking_as, noted_as, noted, call_lost, call_turn, conflict_turn, stop_turn, stop_in_gate}
 use Rattle.iterate.proofs.session.Session.call.Goals as goal
 
 pub returns-then-is_err-clause-turn : goal.returns-then-is_err-clause-turn
