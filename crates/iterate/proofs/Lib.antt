@@ -26,3 +26,4 @@ pub mod FinishTurns
 pub mod LogRooms
 pub mod CommitTurns
 pub mod GoTurns
+pub mod PlacedRooms

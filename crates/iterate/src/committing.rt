@@ -173,6 +173,8 @@ impl<O: Operator> Session<O> {
         ensures turn { TakesTurn (operator_of O.Operator _op.now) (R.view rooms.old) (R.view rooms.new) (view_in (O.rest _op.now) (core_of self.old) (phases.Committing book number left)) (view_of (O.rest _op.now) self.new) (Ok result) }
         ensures loan { R.loan rooms.new ≡ R.loan rooms.old }
     {
+        // A book has few enough commits that each number is small. For proofs: it does nothing.
+        let _commits = book.commits();
         if !release_all(rooms, self.worker, self.iter, number, &mut left) {
             self.phase = Phase::Committing { book, number, left };
             return Event::Busy;

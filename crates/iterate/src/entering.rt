@@ -11,6 +11,7 @@ use gx_base::{Room, SeqType};
 use rooms::{Rooms, Value};
 
 /// The gate of a room, unless another caller holds the room.
+#[inline(always)]
 pub fn enter_gate<R: Rooms<Value<T, S>>, T: SeqType, S: Screen<T>>(
     rooms: &mut R,
     room: Room,
@@ -30,6 +31,7 @@ pub fn enter_gate<R: Rooms<Value<T, S>>, T: SeqType, S: Screen<T>>(
 }
 
 /// Puts a gate in its room.
+#[inline(always)]
 pub fn leave_gate<R: Rooms<Value<T, S>>, T: SeqType, S: Screen<T>>(
     rooms: &mut R,
     room: Room,
@@ -49,6 +51,7 @@ fn book_room<R: Rooms<Value<T, S>>, T: SeqType, S: Screen<T>>(rooms: &R) -> Room
 }
 
 /// The book, unless another caller holds its room.
+#[inline(always)]
 pub fn enter_book<R: Rooms<Value<T, S>>, T: SeqType, S: Screen<T>>(rooms: &mut R) -> Option<Book>
     requires free { is_held (R.view rooms.old) (R.view rooms.old).book ≡ false }
     ensures book { IfSome result (λ book. IsHandedOut tells (R.view rooms.old) (R.view rooms.old).book (values.Book book)) }
@@ -65,6 +68,7 @@ pub fn enter_book<R: Rooms<Value<T, S>>, T: SeqType, S: Screen<T>>(rooms: &mut R
 }
 
 /// Puts the book in its room.
+#[inline(always)]
 pub fn leave_book<R: Rooms<Value<T, S>>, T: SeqType, S: Screen<T>>(rooms: &mut R, book: Book)
     requires { MayLeaveBook (R.view rooms.old) book }
     ensures view { R.view rooms.new ≡ left tells (R.view rooms.old) (R.view rooms.old).book (values.Book book) }

@@ -1,6 +1,6 @@
 use Rattle.std.proofs.Common.{◌≡◌, drop}
 use Rattle.gx_base.specs.Worklists.{has_item}
-use Rattle.commit_book.proofs.book.is_among.Given as goal
+use Rattle.commit_book.proofs.ledger.is_among.Given as goal
 
 -- the item is among all where it is among those that are left
 abbrev pub invariant-loop-other : goal.invariant-loop-other

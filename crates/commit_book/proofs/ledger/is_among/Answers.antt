@@ -2,7 +2,7 @@ use Rattle.std.proofs.Common.{◌∙◌, sym, ap}
 use Rattle.std.specs.Ordering.{is_eq}
 use Rattle.gx_base.specs.Worklists.{item_cmp}
 use Rattle.commit_book.proofs.ready.RisingItems.{among_at, among_after, among_none}
-use Rattle.commit_book.proofs.book.is_among.Goals as goal
+use Rattle.commit_book.proofs.ledger.is_among.Goals as goal
 
 pub returns-then-is_eq : goal.returns-then-is_eq
 unfolding item_cmp

@@ -1,7 +1,7 @@
 use Rattle.std.proofs.Common.{[], ◌∙◌, ap}
 use Rattle.gx_base.specs.Worklists.{with_items}
 use Rattle.commit_book.proofs.books.LawfulLemmas.{new_as}
-use Rattle.commit_book.proofs.book.Book.new.Goals as goal
+use Rattle.commit_book.proofs.ledger.Ledger.new.Goals as goal
 
 pub invariant_of-result : goal.invariant_of-result
 invariant_of-result c =

@@ -1,7 +1,7 @@
 use Rattle.std.proofs.Common.{◌∙◌, sym, false}
 use Rattle.commit_book.proofs.books.HoldLists.{apart-given}
 use Rattle.commit_book.proofs.books.LawfulLemmas.{with_holds, first_free-unheld}
-use Rattle.commit_book.proofs.book.Book.next_free.Goals as goal
+use Rattle.commit_book.proofs.ledger.Ledger.next_free.Goals as goal
 
 pub give-requires : goal.give-requires
 give-requires c = first_free-unheld c.self.inside.holds c.self.inside.ready c.in-Some.item (sym c.first_free.ensures ∙ c.in-Some.is)
