@@ -1,0 +1,4 @@
+pub mod files
+pub mod moves
+pub mod means
+pub mod lines

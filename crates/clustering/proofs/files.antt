@@ -1,0 +1,4 @@
+pub mod RowFields
+pub mod TextRows
+pub mod RowRuns
+pub mod FileAnswers

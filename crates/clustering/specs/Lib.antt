@@ -1,0 +1,11 @@
+pub mod PointRows
+pub mod PointFiles
+pub mod PointReading
+pub mod PointCalls
+pub mod Chain
+pub mod ChainStages
+pub mod Chains
+pub mod CloudState
+pub mod CloudRooms
+pub mod Starts
+pub mod ClusterReports
