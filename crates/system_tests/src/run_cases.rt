@@ -86,14 +86,31 @@ fn reports(alloc: Global, text: &str, report: &str) -> Result<bool, Fail> {
     Ok(run.status == Status::Ok && run.written.as_slice() == report.as_bytes())
 }
 
-#[test]
-fn four_node_network(rt: HostRuntime) -> Result<(), Fail> {
-    assert!(rt; reports(rt.alloc(), FOUR_NODES, FOUR_NODES_REPORT)?);
-    Ok(())
-}
-
-/// Networks, each with its report.
-const NETWORKS: [(&str, &str); 4] = [
+/// Networks, each with the report of one worker, and with the value of the greatest flow.
+pub(crate) const NETWORKS: [(&str, &str, i64); 6] = [
+    (FOUR_NODES, FOUR_NODES_REPORT, 5),
+    // two ways of one unit each
+    (
+        "p max 4 4
+n 1 s
+n 4 t
+a 1 2 1
+a 1 3 1
+a 2 4 1
+a 3 4 1
+",
+        "c i 2
+c i 2
+c i 3
+c i 3
+s 2
+f 1 2 1
+f 1 3 1
+f 2 4 1
+f 3 4 1
+",
+        2,
+    ),
     // no way to the sink
     (
         "p max 3 1
@@ -106,6 +123,7 @@ c i 2
 s 0
 f 1 2 0
 ",
+        0,
     ),
     (
         "p max 2 0
@@ -114,6 +132,7 @@ n 2 t
 ",
         "s 0
 ",
+        0,
     ),
     // parallel arcs
     (
@@ -131,6 +150,7 @@ f 1 2 4
 f 2 1 0
 f 1 2 0
 ",
+        7,
     ),
     // large capacities
     (
@@ -150,12 +170,13 @@ f 1 2 1000000000
 f 2 3 1000000000
 f 2 3 1000000000
 ",
+        2_000_000_000,
     ),
 ];
 
 #[test]
 fn small_networks_have_their_reports(rt: HostRuntime) -> Result<(), Fail> {
-    for (text, report) in NETWORKS {
+    for (text, report, _) in NETWORKS {
         assert!(rt; reports(rt.alloc(), text, report)?, "{text}");
     }
     Ok(())
@@ -226,8 +247,9 @@ fn usage_words(rt: HostRuntime) -> Result<(), Fail> {
 
 /// Whether this word alone ends well, reads nothing, and writes a text that begins and ends like this.
 fn tells_of_itself(alloc: Global, word: &str, first: &str, last: &str) -> Result<bool, Fail> {
+    // neither starting a file nor reading one would do
     let failing = Trouble {
-        reads: &[1],
+        reads: &[0, 1],
         ..NONE
     };
     let run = run_words(alloc, &[word], FOUR_NODES, failing)?;
