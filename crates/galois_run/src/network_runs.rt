@@ -116,11 +116,7 @@ fn taken_out(
 }
 
 /// A report with the lines of a run's turns after it that are wanted.
-fn with_turns(
-    report: Vec<u8>,
-    trace: &[Turn],
-    options: RunOptions,
-) -> Result<Vec<u8>, NoMemory>
+fn with_turns(report: Vec<u8>, trace: &[Turn], options: RunOptions) -> Result<Vec<u8>, NoMemory>
     ensures { IfOk result (λ text. text.items ≡ report.items ++ trace_text (record { turns = options.trace; told = options.told }) (turns_of trace.now)) }
 {
     let mut text = report;
