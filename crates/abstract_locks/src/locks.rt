@@ -38,13 +38,13 @@ impl Model for LockScreen {
 impl LockScreen {
     ghost use Rattle.std.specs.Prelude.{OnOk, IfOk, IfErr};
     ghost use Rattle.cond_lattice.specs.Grades.{AreSimple};
-    ghost use Rattle.lock_compiler.specs.CompileRefusals.{RefusalFits};
+    ghost use Rattle.lock_compiler.specs.CompileRefusals.{CompileRefusalFits};
 
     /// A screen for a table each of whose rows is simple, for a kind's methods.
     pub fn new(alloc: Global, kind: Kind, table: &Table) -> Result<LockScreen, CompileRefuse>
         ensures ok { OnOk result (AreSimple (kind_number kind) (row_of table.now)) }
         ensures made { IfOk result (λ screen. screen ≡ record { kind = kind_number kind; table = table.now }) }
-        ensures refused { IfErr result (RefusalFits (kind_number kind) (row_of table.now)) }
+        ensures refused { IfErr result (CompileRefusalFits (kind_number kind) (row_of table.now)) }
     {
         let compiled = compile(alloc, kind, table)?;
         let modes = reduce(alloc, &compiled)?;

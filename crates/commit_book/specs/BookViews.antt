@@ -83,8 +83,8 @@ abbrev pub free_item : BookView → Option Item
 free_item b = first_free b.holds b.ready
 
 -- the item is ready, and no iteration holds it
-abbrev pub is_free : BookView → Item → Bool
-is_free b item = has_item b.ready item && not (is_held b.holds item)
+abbrev pub is_holdable : BookView → Item → Bool
+is_holdable b item = has_item b.ready item && not (is_held b.holds item)
 
 -- the iteration holds this item, unnamed, in place of what it held
 abbrev pub give : BookView → ℕ → ℕ → Item → BookView
@@ -101,7 +101,7 @@ next_free b worker iter = give_found b worker iter (free_item b)
 
 -- the iteration holds the item, where that was free
 abbrev pub hold : BookView → ℕ → ℕ → Item → BookView
-hold b worker iter item = if is_free b item then give b worker iter item else b
+hold b worker iter item = if is_holdable b item then give b worker iter item else b
 
 -- the iteration holds nothing
 abbrev pub put_back : BookView → ℕ → ℕ → BookView

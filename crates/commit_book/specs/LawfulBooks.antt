@@ -26,9 +26,9 @@ AreOthers h [] = ⊤
 AreOthers h (k ∷ ks) = (is_before h.item k.item ≡ true) × (is_hold_of h.worker h.iter k ≡ false) × AreOthers h ks
 
 -- the holds stand by rising item, an item is held by one iteration, and an iteration holds one item
-abbrev pub AreApart : List Hold → Type 0
-AreApart [] = ⊤
-AreApart (h ∷ hs) = AreOthers h hs × AreApart hs
+abbrev pub AreHeldApart : List Hold → Type 0
+AreHeldApart [] = ⊤
+AreHeldApart (h ∷ hs) = AreOthers h hs × AreHeldApart hs
 
 -- taking the commits in order from the first ready set, each item may commit at its turn, and what this leaves ready is
 -- ready now; no more items have committed than may, with no more steps than the journal may have. That a held item is
@@ -36,7 +36,7 @@ AreApart (h ∷ hs) = AreOthers h hs × AreApart hs
 pub record IsLawfulBook (b : BookView) : Type 0 where
   pub in_turn : AreInTurn b.ordered b.first_ready b.commits b.ready
   pub rising : AreRising b.ready
-  pub apart : AreApart b.holds
+  pub apart : AreHeldApart b.holds
   pub not_more : length b.commits ≤ most_commits
   pub kept : length (journal b.commits) ≤ most_steps
 

@@ -24,7 +24,7 @@ pub record IsLeastFirstRun (op : Operator) (states : ℕ → State) (ready : Lis
   pub are_told : told ≡ all_counted commits
 
 -- such a run at whose end nothing is ready
-pub record IsWholeRun (op : Operator) (before : ℕ → State) (ready : List Item) (told : List Commit) (after : ℕ → State) : Type 0 where
+pub record IsWholeSerialRun (op : Operator) (before : ℕ → State) (ready : List Item) (told : List Commit) (after : ℕ → State) : Type 0 where
   pub outcomes : List Outcome
   pub run : IsLeastFirstRun op before ready told (record { states = after; ready = []; outcomes = outcomes })
   pub within : length told ≤ most_commits
@@ -42,4 +42,4 @@ pub record IsUnfinished (op : Operator) (before : ℕ → State) (ready : List I
 pub record IsDetermined (op : Operator) : Type 0 where
   pub order : (states : ℕ → State) (ready xs ys : List Item) (e f : Ended) → serial (least_first op) states ready xs ≡ Some e → serial (least_first op) states ready ys ≡ Some f → length xs ≤ length ys → xs ≡ take (length xs) ys
   pub longest : (states : ℕ → State) (ready xs ys : List Item) (e f : Ended) → serial (least_first op) states ready xs ≡ Some e → serial (least_first op) states ready ys ≡ Some f → e.ready ≡ [] → length ys ≤ length xs
-  pub not_unfinished : (states after after' : ℕ → State) (ready : List Item) (told : List Commit) → IsWholeRun op states ready told after → IsUnfinished op states ready after' → ⊥
+  pub not_unfinished : (states after after' : ℕ → State) (ready : List Item) (told : List Commit) → IsWholeSerialRun op states ready told after → IsUnfinished op states ready after' → ⊥

@@ -24,7 +24,7 @@ impl Model for Holds {
     ghost use Rattle.std.specs.Coded.{coded_list};
     ghost use Rattle.commit_book.specs.BookViews.{Hold, hold_code};
     ghost use Rattle.commit_book.specs.StoredBooks.{holds_of};
-    ghost use Rattle.commit_book.specs.LawfulBooks.{AreApart};
+    ghost use Rattle.commit_book.specs.LawfulBooks.{AreHeldApart};
 
     ghost Value = { List Hold };
 
@@ -32,7 +32,7 @@ impl Model for Holds {
 
     ghost view = { λ holds. holds_of holds.holders.entries };
 
-    ghost invariant = { λ holds. AreApart (holds_of holds.holders.entries) };
+    ghost invariant = { λ holds. AreHeldApart (holds_of holds.holders.entries) };
 }
 
 impl Holds {

@@ -3,7 +3,7 @@ ghost use Rattle.gx_base.specs.Replays.{in_rooms};
 ghost use Rattle.gx_base.specs.SerialIterations.{body, ready_after};
 ghost use Rattle.gx_base.specs.Worklists.{with_items, without_item};
 ghost use Rattle.commit_book.specs.Commits.{outcome_of};
-ghost use Rattle.commit_book.specs.SerialRuns.{operator_of, IsWholeRun, IsUnfinished, IsDetermined};
+ghost use Rattle.commit_book.specs.SerialRuns.{operator_of, IsWholeSerialRun, IsUnfinished, IsDetermined};
 ghost use Rattle.commit_book.specs.declared.serial.SerialStop.TheVariants as stops;
 ghost use Rattle.std.specs.declared.result.Result.TheVariants.{Err};
 
@@ -100,7 +100,7 @@ pub fn run_serially<O: Operator, T: SeqType>(
     ready: &[Item],
 ) -> Result<Vec<Commit>, SerialStop>
     requires { O.room_count op.now ≡ length rooms.old }
-    ensures whole { IfOk result (λ commits. IsWholeRun (operator_of O.Operator op.now) (in_rooms (map T.state rooms.old)) (with_items [] ready.now) commits.items (in_rooms (map T.state rooms.new))) }
+    ensures whole { IfOk result (λ commits. IsWholeSerialRun (operator_of O.Operator op.now) (in_rooms (map T.state rooms.old)) (with_items [] ready.now) commits.items (in_rooms (map T.state rooms.new))) }
     ensures spent { result ≡ Err stops.Spent → IsUnfinished (operator_of O.Operator op.now) (in_rooms (map T.state rooms.old)) (with_items [] ready.now) (in_rooms (map T.state rooms.new)) }
 {
     let mut worklist = Worklist::new(alloc);

@@ -4,7 +4,7 @@
 ghost use Rattle.std.specs.Prelude.{◌≡◌, ◌++◌, IfOk, OnOk, string_bytes};
 ghost use Rattle.gx_base.specs.declared.kinds.Kind.{Kind};
 ghost use Rattle.gx_base.specs.Conditions.{condition_of};
-ghost use Rattle.cond_syntax.specs.Tokens.{tokens_of};
+ghost use Rattle.cond_syntax.specs.Tokens.{tokens_in};
 ghost use Rattle.cond_syntax.specs.TableTexts.{Spells};
 ghost use Rattle.cond_syntax.specs.Printing as printing;
 ghost use Rattle.cond_syntax.specs.Printing.{condition_text, grouped};
@@ -17,7 +17,7 @@ use std::alloc::{AllocError, Global};
 /// The text of a condition, in which a value past place 7 is `0`. What prints it recurses as deep as its tree.
 pub fn print_cond(alloc: Global, cond: &Cond) -> Result<String, NoMemory>
     ensures text { IfOk result (λ text. string_bytes text ≡ condition_text (condition_of cond.now)) }
-    ensures reads_back { IfOk result (λ text. (kind : Kind) → IsPrintable kind (condition_of cond.now) → Spells kind (tokens_of (string_bytes text)) (condition_of cond.now)) }
+    ensures reads_back { IfOk result (λ text. (kind : Kind) → IsPrintable kind (condition_of cond.now) → Spells kind (tokens_in (string_bytes text)) (condition_of cond.now)) }
 {
     let mut text = String::new(alloc);
     put_condition(&mut text, cond)?;

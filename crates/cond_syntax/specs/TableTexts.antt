@@ -10,7 +10,7 @@ use Rattle.gx_base.specs.Methods.{method_of}
 use Rattle.gx_base.specs.TableRows.{RowMap}
 use Rattle.text_lines.specs.Lines.{lines_of}
 use Rattle.text_lines.specs.Fields.{is_blank}
-use Rattle.cond_syntax.specs.Tokens.{Token, Word, TypeKey, Colon, tokens_of}
+use Rattle.cond_syntax.specs.Tokens.{Token, Word, TypeKey, Colon, tokens_in}
 use Rattle.cond_syntax.specs.WrittenConditions.{WrittenCondition, depth_of, condition_in}
 use Rattle.cond_syntax.specs.Grammar.{IsCondition}
 use Rattle.cond_syntax.specs.Fronts.{front_of, is_cut, IsOfForm, all_known}
@@ -80,10 +80,10 @@ pub data SoFar : Type 0 where
 -- a line without a fault, with what has been read before it and after it
 pub data IsRead : List Kind → SoFar → List ℕ → SoFar → Type 0 where
   skipped : {wanted : List Kind} {before : SoFar} {line : List ℕ} → is_skipped line ≡ true → IsRead wanted before line before
-  type_line : {wanted : List Kind} {line name : List ℕ} {kind : Kind} → is_skipped line ≡ false → IsTypeLine (tokens_of line) name → IsWanted wanted name kind
+  type_line : {wanted : List Kind} {line name : List ℕ} {kind : Kind} → is_skipped line ≡ false → IsTypeLine (tokens_in line) name → IsWanted wanted name kind
       → IsRead wanted Untyped line (Typed kind map.empty)
   row : {wanted : List Kind} {line first second : List ℕ} {kind : Kind} {rows : RowMap} {ts : List Token} {i j : ℕ} {condition : Condition} → is_skipped line ≡ false
-      → tokens_of line ≡ Word first ∷ Word second ∷ Colon ∷ ts → AreMethods kind first second i j → Spells kind ts condition → map.get rows (i, j) ≡ None
+      → tokens_in line ≡ Word first ∷ Word second ∷ Colon ∷ ts → AreMethods kind first second i j → Spells kind ts condition → map.get rows (i, j) ≡ None
       → IsRead wanted (Typed kind rows) line (Typed kind (map.insert rows (i, j) condition))
 
 -- lines without a fault
@@ -129,7 +129,7 @@ pub data HasFault : List Kind → SoFar → List Token → Fault → Type 0 wher
 -- the fault at the first of these lines; past the last line it is that there is no `type` line
 abbrev pub IsFaultHere : List Kind → SoFar → List (List ℕ) → Fault → Type 0
 IsFaultHere wanted before [] fault = (before ≡ Untyped) × (fault ≡ Syntax)
-IsFaultHere wanted before (line ∷ lines) fault = (is_skipped line ≡ false) × HasFault wanted before (tokens_of line) fault
+IsFaultHere wanted before (line ∷ lines) fault = (is_skipped line ≡ false) × HasFault wanted before (tokens_in line) fault
 
 -- the first line with a fault, from 1, and that fault; a missing `type` line is told with the number of lines plus 1
 pub record IsFirstFault (wanted : List Kind) (bytes : List ℕ) (line : ℕ) (fault : Fault) : Type 0 where

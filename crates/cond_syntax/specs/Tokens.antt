@@ -69,5 +69,5 @@ token_of (b ∷ bs) =
     else sign_token (b ∷ bs)
 
 -- the tokens of a line
-abbrev pub tokens_of : List ℕ → List Token
-tokens_of line = map token_of (pieces_of line)
+abbrev pub tokens_in : List ℕ → List Token
+tokens_in line = map token_of (pieces_of line)

@@ -6,7 +6,7 @@ ghost use Rattle.gx_base.specs.declared.kinds.Kind.{Kind};
 ghost use Rattle.gx_base.specs.Conditions.{Condition};
 ghost use Rattle.gx_base.specs.TableRows.{RowMap, row_of};
 ghost use Rattle.gx_base.specs.Tables.{Rows};
-ghost use Rattle.cond_syntax.specs.Tokens.{Token, tokens_of};
+ghost use Rattle.cond_syntax.specs.Tokens.{Token, tokens_in};
 ghost use Rattle.cond_syntax.specs.WrittenConditions.{WrittenCondition, condition_in};
 ghost use Rattle.cond_syntax.specs.Grammar.{IsCondition};
 ghost use Rattle.cond_syntax.specs.Fronts.{all_known};
@@ -47,7 +47,7 @@ pub fn each_text_is_a_table_or_has_a_first_fault()
 
 /// The tokens of a printed condition spell it.
 pub fn printed_conditions_are_read_back()
-    ensures { (kind : Kind) (c : Condition) → IsPrintable kind c → Spells kind (tokens_of (condition_text c)) c }
+    ensures { (kind : Kind) (c : Condition) → IsPrintable kind c → Spells kind (tokens_in (condition_text c)) c }
 {}
 
 /// A printed table is the text of a table with its rows, wherever its kind is wanted.

@@ -35,7 +35,7 @@ pub record IsLevel (kind : ℕ) (level : Level) (base : Option (List Frame)) (fr
   pub is : frames ≡ not_frames nots (and_frames and_left (or_frames or_left (outside base)))
 
 -- a conjunction stands for this one, with these frames
-pub record IsConjunction (kind : ℕ) (conjunction : Conjunction) (base : Option (List Frame)) (last : WrittenCondition) (frames : List Frame) : Type 0 where
+pub record IsDraftConjunction (kind : ℕ) (conjunction : Conjunction) (base : Option (List Frame)) (last : WrittenCondition) (frames : List Frame) : Type 0 where
   pub or_left : Option WrittenCondition
   pub is_or_left : IsLeft kind or_left conjunction.or_left
   pub is_last : IsDraft kind last conjunction.last
@@ -43,7 +43,7 @@ pub record IsConjunction (kind : ℕ) (conjunction : Conjunction) (base : Option
 
 -- the state is that after this conjunction
 abbrev pub LeadsConjunction : ℕ → Option (List Frame) → State → Conjunction → Type 0
-LeadsConjunction kind base state conjunction = (last : WrittenCondition) × (frames : List Frame) × IsConjunction kind conjunction base last frames × (state ≡ Done last frames)
+LeadsConjunction kind base state conjunction = (last : WrittenCondition) × (frames : List Frame) × IsDraftConjunction kind conjunction base last frames × (state ≡ Done last frames)
 
 -- a unit is due in the state, inside of this level
 abbrev pub LeadsLevel : ℕ → Option (List Frame) → State → Level → Type 0

@@ -3,7 +3,7 @@ use Rattle.std.specs.Prelude.{◌≡◌, ◌≤◌, ◌<◌, ℕ, Bool, false, �
 use Rattle.gx_base.specs.declared.kinds.Kind.{Kind}
 use Rattle.gx_base.specs.Kinds.{kind_number}
 use Rattle.cond_syntax.specs.Tokens as plain
-use Rattle.cond_syntax.specs.Tokens.{tokens_of}
+use Rattle.cond_syntax.specs.Tokens.{tokens_in}
 use Rattle.cond_syntax.specs.Fronts.{front_from, is_cut_from, all_known}
 use Rattle.cond_text.specs.Machine as machine
 use Rattle.cond_text.specs.Machine.{State, Reading, run, ended, step, whole, whole_or_wrong}
@@ -18,11 +18,11 @@ use Rattle.cond_text.specs.declared.sources.Stop.TheVariants.{Wrong, Cut, NoMemo
 
 -- the tokens that are still to be read
 abbrev pub tokens_ahead : Source → List plain.Token
-tokens_ahead source = front_from source.opened (tokens_of source.rest.now)
+tokens_ahead source = front_from source.opened (tokens_in source.rest.now)
 
 -- what reading all of them from a state on comes to
 unfoldable pub reading : Option State → Source → Reading
-reading state source = ended (is_cut_from source.opened (tokens_of source.rest.now)) (run state (tokens_ahead source))
+reading state source = ended (is_cut_from source.opened (tokens_in source.rest.now)) (run state (tokens_ahead source))
 
 -- whether each word is known in its place, of those that have been read and those ahead
 unfoldable pub words_known : Source → Bool
@@ -31,8 +31,8 @@ words_known source = source.all_known && all_known (kind_number source.kind) sou
 -- nothing of a text has been read
 pub record IsSourceStart (wanted : Kind) (text : List ℕ) (source : Source) : Type 0 where
   pub kind : source.kind ≡ wanted
-  pub known : words_known source ≡ all_known (kind_number wanted) false (front_from 0 (tokens_of text))
-  pub reads : (state : State) → reading (Some state) source ≡ machine.read_from (is_cut_from 0 (tokens_of text)) state (front_from 0 (tokens_of text))
+  pub known : words_known source ≡ all_known (kind_number wanted) false (front_from 0 (tokens_in text))
+  pub reads : (state : State) → reading (Some state) source ≡ machine.read_from (is_cut_from 0 (tokens_in text)) state (front_from 0 (tokens_in text))
 
 -- a part of what is ahead has been read
 pub record IsLater (old new : Source) : Type 0 where

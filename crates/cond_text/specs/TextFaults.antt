@@ -8,13 +8,13 @@ use Rattle.cond_text.specs.declared.faults.TextFault.{TextFault}
 use Rattle.cond_text.specs.declared.faults.TextFault.TheVariants.{Syntax, UnknownMethod, UnknownName, Twice, TooDeep, NoMemory}
 
 -- what holds of the line and the fault that are told; want of memory tells none
-abbrev pub IsTold : (ℕ → Fault → Type 0) → TextFault → Type 0
-IsTold holds (Syntax line) = holds line fault.Syntax
-IsTold holds (UnknownMethod line) = holds line fault.UnknownMethod
-IsTold holds (UnknownName line) = holds line fault.UnknownName
-IsTold holds (Twice line) = holds line fault.Twice
-IsTold holds (TooDeep line) = holds line fault.TooDeep
-IsTold holds NoMemory = Unit {0}
+abbrev pub IsFaultTold : (ℕ → Fault → Type 0) → TextFault → Type 0
+IsFaultTold holds (Syntax line) = holds line fault.Syntax
+IsFaultTold holds (UnknownMethod line) = holds line fault.UnknownMethod
+IsFaultTold holds (UnknownName line) = holds line fault.UnknownName
+IsFaultTold holds (Twice line) = holds line fault.Twice
+IsFaultTold holds (TooDeep line) = holds line fault.TooDeep
+IsFaultTold holds NoMemory = Unit {0}
 
 -- this table is given, but for want of memory
 abbrev pub GivesTable : Kind → RowMap → Result (Kind × RowMap) TextFault → Type 0
@@ -24,4 +24,4 @@ GivesTable kind rows (Err refused) = refused ≡ NoMemory
 -- this fault is told, but for want of memory
 abbrev pub GivesFault : ℕ → Fault → Result (Kind × RowMap) TextFault → Type 0
 GivesFault line fault (Ok read) = ⊥
-GivesFault line fault (Err refused) = IsTold (λ k f. (k ≡ line) × (f ≡ fault)) refused
+GivesFault line fault (Err refused) = IsFaultTold (λ k f. (k ≡ line) × (f ≡ fault)) refused

@@ -2,7 +2,7 @@
 
 ghost use Rattle.std.specs.Prelude.{◌≡◌, IfOk};
 ghost use Rattle.gx_base.specs.Kinds.{kind_number};
-ghost use Rattle.cond_syntax.specs.Tokens.{tokens_of};
+ghost use Rattle.cond_syntax.specs.Tokens.{tokens_in};
 ghost use Rattle.cond_text.specs.Found.{IsFound};
 ghost use Rattle.cond_text.specs.Answered.{found_of};
 
@@ -26,7 +26,7 @@ pub(crate) enum Found {
 
 /// Reads the condition that the rest of a row's line spells, with the words of a kind.
 pub(crate) fn read_condition(alloc: Global, kind: Kind, text: &[u8]) -> Result<Found, NoMemory>
-    ensures { IfOk result (IsFound kind (tokens_of text.now)) }
+    ensures { IfOk result (IsFound kind (tokens_in text.now)) }
 {
     let mut source = Source::new(kind, text);
     match read_tokens(alloc, &mut source) {

@@ -4,7 +4,7 @@ ghost use Rattle.std.specs.Prelude.{ℕ, List, ◌∷◌, Option, IfOk};
 ghost use Rattle.cond_syntax.specs.WrittenConditions.{WrittenCondition};
 ghost use Rattle.cond_text.specs.Machine.{Frame, Negation, AndLeft, unit_done, or_read};
 ghost use Rattle.cond_text.specs.Drafts.{IsDraft, IsLeft, both_of};
-ghost use Rattle.cond_text.specs.Levels.{IsLevel, IsConjunction, LeadsConjunction, LeadsLevel, IsWhole, outside};
+ghost use Rattle.cond_text.specs.Levels.{IsLevel, IsDraftConjunction, LeadsConjunction, LeadsLevel, IsWhole, outside};
 
 use crate::drafts::{Draft, both, either, negated_by};
 use gx_base::NoMemory;
@@ -92,7 +92,7 @@ impl Level {
 impl Conjunction {
     /// The level after `and`.
     pub(crate) fn after_and(self) -> Level
-        ensures { (kind : ℕ) (base : Option (List Frame)) (last : WrittenCondition) (frames : List Frame) → IsConjunction kind self base last frames → IsLevel kind result base (AndLeft last ∷ frames) }
+        ensures { (kind : ℕ) (base : Option (List Frame)) (last : WrittenCondition) (frames : List Frame) → IsDraftConjunction kind self base last frames → IsLevel kind result base (AndLeft last ∷ frames) }
     {
         let Conjunction { or_left, last } = self;
         Level {
@@ -104,7 +104,7 @@ impl Conjunction {
 
     /// The condition that the conjunction ends.
     pub(crate) fn condition(self, alloc: Global) -> Result<Draft, NoMemory>
-        ensures { (kind : ℕ) (base : Option (List Frame)) (last : WrittenCondition) (frames : List Frame) → IsConjunction kind self base last frames → IfOk result (IsWhole kind base last frames) }
+        ensures { (kind : ℕ) (base : Option (List Frame)) (last : WrittenCondition) (frames : List Frame) → IsDraftConjunction kind self base last frames → IfOk result (IsWhole kind base last frames) }
     {
         let Conjunction { or_left, last } = self;
         match or_left {
@@ -115,7 +115,7 @@ impl Conjunction {
 
     /// The level after `or`.
     pub(crate) fn after_or(self, alloc: Global) -> Result<Level, NoMemory>
-        ensures { (kind : ℕ) (base : Option (List Frame)) (last : WrittenCondition) (frames : List Frame) → IsConjunction kind self base last frames → IfOk result (LeadsLevel kind base (or_read last frames)) }
+        ensures { (kind : ℕ) (base : Option (List Frame)) (last : WrittenCondition) (frames : List Frame) → IsDraftConjunction kind self base last frames → IfOk result (LeadsLevel kind base (or_read last frames)) }
     {
         let left = self.condition(alloc)?;
         Ok(Level {

@@ -7,7 +7,7 @@ ghost use Rattle.cond_text.specs.Machine as machine;
 ghost use Rattle.cond_text.specs.Machine.{State, Frame, Operand, step, unit_done, close_read, whole};
 ghost use Rattle.cond_text.specs.CodeTokens.{token_seen};
 ghost use Rattle.cond_text.specs.Drafts.{IsDraft};
-ghost use Rattle.cond_text.specs.Levels.{IsLevel, IsConjunction};
+ghost use Rattle.cond_text.specs.Levels.{IsLevel, IsDraftConjunction};
 ghost use Rattle.cond_text.specs.Sources.{IsLater, IsStopped};
 ghost use Rattle.cond_text.specs.Readers.{AreOutside, HasReached, IsTaken, LeadsReader, LeadsUnit, IsEnded, IsReadWhole};
 
@@ -131,7 +131,7 @@ fn after_close(
     outer: Vec<Level>,
     conjunction: Conjunction,
 ) -> Result<Option<Reader>, NoMemory>
-    ensures { (kind : ℕ) (base : Option (List Frame)) (last : WrittenCondition) (frames : List Frame) → AreOutside kind (reverse outer.items) base → IsConjunction kind conjunction base last frames → IfOk result (IsTaken kind (close_read last frames)) }
+    ensures { (kind : ℕ) (base : Option (List Frame)) (last : WrittenCondition) (frames : List Frame) → AreOutside kind (reverse outer.items) base → IsDraftConjunction kind conjunction base last frames → IfOk result (IsTaken kind (close_read last frames)) }
 {
     let mut outer = outer;
     let Some(level) = outer.pop() else {
@@ -187,7 +187,7 @@ fn take_done(
     conjunction: Conjunction,
     token: TextToken<'_>,
 ) -> Result<Option<Reader>, NoMemory>
-    ensures { (kind : ℕ) (base : Option (List Frame)) (last : WrittenCondition) (frames : List Frame) → AreOutside kind (reverse outer.items) base → IsConjunction kind conjunction base last frames → IfOk result (IsTaken kind (step (machine.Done last frames) (token_seen token.entry))) }
+    ensures { (kind : ℕ) (base : Option (List Frame)) (last : WrittenCondition) (frames : List Frame) → AreOutside kind (reverse outer.items) base → IsDraftConjunction kind conjunction base last frames → IfOk result (IsTaken kind (step (machine.Done last frames) (token_seen token.entry))) }
 {
     match token {
         TextToken::AndKey => Ok(Some(Reader::due(alloc, outer, conjunction.after_and()))),

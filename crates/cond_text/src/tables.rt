@@ -10,7 +10,7 @@ ghost use Rattle.gx_base.specs.declared.kinds.Kind.{Kind};
 ghost use Rattle.gx_base.specs.TableRows.{RowMap};
 ghost use Rattle.text_lines.specs.Lines.{lines_of};
 ghost use Rattle.cond_syntax.specs.TableTexts.{Fault, Untyped, AreRead, IsTableText, IsFirstFault};
-ghost use Rattle.cond_text.specs.TextFaults.{IsTold, GivesTable, GivesFault};
+ghost use Rattle.cond_text.specs.TextFaults.{IsFaultTold, GivesTable, GivesFault};
 ghost use Rattle.cond_text.specs.LineAnswers.{so_far};
 
 use crate::faults::TextFault;
@@ -23,7 +23,7 @@ use text_lines::first_line;
 pub fn read_table(alloc: Global, bytes: &[u8], wanted: &[Kind]) -> Result<(Kind, Table), TextFault>
     // A table is that of the text, and a fault is its first one.
     ensures table { IfOk result (λ read. IsTableText wanted.now bytes.now read.0 read.1) }
-    ensures fault { IfErr result (IsTold (IsFirstFault wanted.now bytes.now)) }
+    ensures fault { IfErr result (IsFaultTold (IsFirstFault wanted.now bytes.now)) }
 
     // The text's table or first fault is the answer, but for want of memory.
     ensures only_table { (kind : Kind) (rows : RowMap) → IsTableText wanted.now bytes.now kind rows → GivesTable kind rows result }
@@ -41,7 +41,7 @@ fn read_lines(alloc: Global, bytes: &[u8], wanted: &[Kind]) -> Result<(Reader, u
     ensures read { IfOk result (λ x. AreRead wanted.now Untyped (lines_of bytes.now) (so_far x.0)) }
     ensures count { IfOk result (λ x. x.1 ≡ length (lines_of bytes.now)) }
     ensures few { IfOk result (λ x. x.1 ≤ length bytes.now) }
-    ensures fault { IfErr result (IsTold (IsFirstFault wanted.now bytes.now)) }
+    ensures fault { IfErr result (IsFaultTold (IsFirstFault wanted.now bytes.now)) }
 {
     let mut reader = Reader::Untyped;
     let mut count = 0;

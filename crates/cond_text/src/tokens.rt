@@ -6,7 +6,7 @@ ghost use Rattle.text_lines.specs.Numbers.{number_of};
 ghost use Rattle.cond_syntax.specs.Pieces as pieces;
 ghost use Rattle.cond_syntax.specs.Pieces.{pieces_of};
 ghost use Rattle.cond_syntax.specs.Tokens as plain;
-ghost use Rattle.cond_syntax.specs.Tokens.{tokens_of};
+ghost use Rattle.cond_syntax.specs.Tokens.{tokens_in};
 ghost use Rattle.cond_text.specs.CodeTokens.{token_seen};
 
 use text_lines::{is_blank, number};
@@ -40,7 +40,7 @@ pub enum TextToken<'a> {
 /// The first token of a line and what follows it, and none where there is no token. Tokens are the longest that
 /// begin at their place.
 pub fn next_token(line: &[u8]) -> Option<(TextToken<'_>, &[u8])>
-    ensures tokens { MatchOption result (tokens_of line.now ≡ []) (λ x. tokens_of line.now ≡ token_seen x.0 ∷ tokens_of x.1.now) }
+    ensures tokens { MatchOption result (tokens_in line.now ≡ []) (λ x. tokens_in line.now ≡ token_seen x.0 ∷ tokens_in x.1.now) }
     ensures shorter { IfSome result (λ x. length x.1.now < length line.now) }
 {
     let rest = &line[front_while_blank(line)..];

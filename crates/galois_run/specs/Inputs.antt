@@ -56,7 +56,7 @@ abbrev pub IsTooLong : List ℕ → Type 0
 IsTooLong bytes = most_bytes < length bytes
 
 -- no file has too many bytes
-pub record AreWithin (inputs : Inputs) : Type 0 where
+pub record AreWithinLength (inputs : Inputs) : Type 0 where
   pub main : IfSome inputs.main IsWithinLength
   pub conditions : IfSome inputs.conditions IsWithinLength
   pub second : IfSome inputs.second IsWithinLength

@@ -8,7 +8,7 @@ use Rattle.galois_run.specs.declared.status.Status.TheVariants.{Ok, Usage, BadIn
 use Rattle.galois_run.specs.declared.status.TableFault.{TableFault}
 use Rattle.speculation.specs.Limits.{Limit}
 use Rattle.speculation.specs.Limits as limits
-use Rattle.galois_run.specs.Inputs.{Inputs, AreWithin, PassesFileLimit, IsFileLimit}
+use Rattle.galois_run.specs.Inputs.{Inputs, AreWithinLength, PassesFileLimit, IsFileLimit}
 use Rattle.galois_run.specs.CommandMeaning.{CommandMeaning}
 
 -- the answers that may come at any place, in place of the one that the input calls for
@@ -22,7 +22,7 @@ pub record ComesWhere (cause : Type 0) (status result : Status) : Type 0 where
 
 -- a file has too many bytes, or none has and what they hold is past a limit of the command's
 abbrev pub PassesLimit : CommandMeaning → Inputs → What → Type 0
-PassesLimit meaning inputs what = PassesFileLimit inputs what ⊎ (AreWithin inputs × meaning.too_large inputs what)
+PassesLimit meaning inputs what = PassesFileLimit inputs what ⊎ (AreWithinLength inputs × meaning.too_large inputs what)
 
 abbrev pub status_of_limit : Limit → Status
 status_of_limit limits.Spent = Spent
@@ -31,18 +31,18 @@ status_of_limit limits.Kept = Kept
 -- each refusal of the inputs comes exactly where they call for it
 pub record IsCaused (meaning : CommandMeaning) (inputs : Inputs) (status : Status) : Type 0 where
   pub too_large : (what : What) → ComesWhere (PassesLimit meaning inputs what) (TooLarge what) status
-  pub bad_table : (why : TableFault) → ComesWhere (AreWithin inputs × meaning.bad_table inputs why) (BadTable why) status
-  pub bad_input : (line : ℕ) → ComesWhere (AreWithin inputs × meaning.malformed inputs line) (BadInput line) status
-  pub past : (limit : Limit) → ComesWhere (AreWithin inputs × meaning.passes inputs limit) (status_of_limit limit) status
+  pub bad_table : (why : TableFault) → ComesWhere (AreWithinLength inputs × meaning.bad_table inputs why) (BadTable why) status
+  pub bad_input : (line : ℕ) → ComesWhere (AreWithinLength inputs × meaning.malformed inputs line) (BadInput line) status
+  pub past : (limit : Limit) → ComesWhere (AreWithinLength inputs × meaning.passes inputs limit) (status_of_limit limit) status
 
 -- where nothing is wrong with the inputs, and no commit would pass a limit, only a fault or want of memory keeps the report from being
 -- written whole
 abbrev pub Completes : CommandMeaning → Inputs → Status → Type 0
-Completes meaning inputs status = AreWithin inputs → meaning.ends inputs → (status ≡ Ok) ⊎ ((status ≡ WriteFault) ⊎ GivesUp status)
+Completes meaning inputs status = AreWithinLength inputs → meaning.ends inputs → (status ≡ Ok) ⊎ ((status ≡ WriteFault) ⊎ GivesUp status)
 
 -- the inputs call for this report
 pub record IsReported (meaning : CommandMeaning) (inputs : Inputs) (report : List ℕ) : Type 0 where
-  pub within : AreWithin inputs
+  pub within : AreWithinLength inputs
   pub is_report : meaning.reported inputs report
 
 -- the whole report was added, and flushed
@@ -52,7 +52,7 @@ pub record IsWritten (meaning : CommandMeaning) (inputs : Inputs) (before after 
   pub added : AddsWhole before after report
 
 -- a prefix of the report was added
-pub record IsCutShort (meaning : CommandMeaning) (inputs : Inputs) (before after : Option Written) : Type 0 where
+pub record IsReportCutShort (meaning : CommandMeaning) (inputs : Inputs) (before after : Option Written) : Type 0 where
   pub report : List ℕ
   pub is_reported : IsReported meaning inputs report
   pub prefix : AddsFront before after report

@@ -9,17 +9,17 @@ use Rattle.galois_run.specs.declared.status.TableFault.{TableFault}
 use Rattle.galois_run.specs.declared.status.TableFault.TheVariants.{Line, Pair}
 use Rattle.gx_base.specs.Methods.{word_of}
 
-abbrev pub number_of : Status → ℕ
-number_of Ok = 0
-number_of Usage = 1
-number_of (BadInput line) = 2
-number_of ReadFault = 3
-number_of WriteFault = 4
-number_of NoMemory = 5
-number_of (TooLarge what) = 6
-number_of Spent = 7
-number_of Kept = 8
-number_of (BadTable why) = 9
+abbrev pub status_code : Status → ℕ
+status_code Ok = 0
+status_code Usage = 1
+status_code (BadInput line) = 2
+status_code ReadFault = 3
+status_code WriteFault = 4
+status_code NoMemory = 5
+status_code (TooLarge what) = 6
+status_code Spent = 7
+status_code Kept = 8
+status_code (BadTable why) = 9
 
 abbrev pub what_text : What → List ℕ
 what_text File = codes "file"

@@ -2,7 +2,7 @@
 
 ghost use Rattle.std.specs.Prelude.{◌≡◌, ◌≢◌, List, Option, ℕ, Err, IfSome, IsSomeAnd, IfOk, IsErrOf, option_map};
 ghost use Rattle.gx_io.specs.Faults.{Counts};
-ghost use Rattle.galois_run.specs.Inputs.{main_of, inputs_in, inputs_of, held_under, IsWithinLength, IsTooLong, AreWithin, HasTooLong};
+ghost use Rattle.galois_run.specs.Inputs.{main_of, inputs_in, inputs_of, held_under, IsWithinLength, IsTooLong, AreWithinLength, HasTooLong};
 ghost use Rattle.galois_run.specs.Words.{planned};
 
 use crate::words::Plan;
@@ -66,7 +66,7 @@ pub(crate) fn read_inputs<F: Files>(
     files: &mut F,
 ) -> Result<InputFiles, WholeRefuse>
     ensures whole { IfOk result (λ read. IfSome (inputs_of (planned plan.now) (F.holds files.old)) (λ inputs. inputs_in read ≡ inputs)) }
-    ensures within { IfOk result (λ read. AreWithin (inputs_in read)) }
+    ensures within { IfOk result (λ read. AreWithinLength (inputs_in read)) }
     ensures too_long { IsErrOf result WholeRefuse.TooLong → IfSome (inputs_of (planned plan.now) (F.holds files.old)) HasTooLong }
     ensures holds { F.holds files.new ≡ F.holds files.old }
     ensures counts { Counts (F.faults files.old) (F.faults files.new) (result ≡ Err WholeRefuse.Failed) (result ≢ Err WholeRefuse.Failed) }

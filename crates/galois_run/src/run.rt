@@ -5,7 +5,7 @@ ghost use Rattle.gx_io.specs.Faults.{Counts};
 ghost use Rattle.gx_io.specs.Sinks.{AddsWhole, AddsFront};
 ghost use Rattle.galois_run.specs.CommandMeanings.{command_meaning};
 ghost use Rattle.galois_run.specs.Inputs.{inputs_of, OnInputs};
-ghost use Rattle.galois_run.specs.RunTurns.{IsCaused, IsReported, IsWritten, IsCutShort, IsAnswer, Completes, writes, IsRefusal, ending};
+ghost use Rattle.galois_run.specs.RunTurns.{IsCaused, IsReported, IsWritten, IsReportCutShort, IsAnswer, Completes, writes, IsRefusal, ending};
 ghost use Rattle.galois_run.specs.Words.{plan_of, planned};
 
 use crate::commands::report_of;
@@ -29,7 +29,7 @@ pub fn run_turns<F: Files, K: Sink>(
     // Each refusal comes by its cause.
     ensures usage { (result ≡ Status.Usage) ↔ (plan_of (map string_bytes words.now) ≡ None) }
     ensures caused { OnInputs (plan_of (map string_bytes words.now)) (F.holds files.old) (λ plan inputs. IsCaused (command_meaning plan) inputs result) }
-    ensures cut_short { result ≡ Status.WriteFault → OnInputs (plan_of (map string_bytes words.now)) (F.holds files.old) (λ plan inputs. IsCutShort (command_meaning plan) inputs (K.told out.old) (K.told out.new)) }
+    ensures cut_short { result ≡ Status.WriteFault → OnInputs (plan_of (map string_bytes words.now)) (F.holds files.old) (λ plan inputs. IsReportCutShort (command_meaning plan) inputs (K.told out.old) (K.told out.new)) }
     ensures answers { IfSome (plan_of (map string_bytes words.now)) (λ plan. IsAnswer (command_meaning plan) result) }
 
     // Where nothing is wrong with the inputs, nothing but a fault or want of memory keeps the report from being written.
@@ -56,7 +56,7 @@ fn run_command<F: Files, K: Sink>(alloc: Global, plan: &Plan, files: &mut F, out
     ensures ok { result ≡ Status.Ok → IfSome (inputs_of (planned plan.now) (F.holds files.old)) (λ inputs. IsWritten (command_meaning (planned plan.now)) inputs (K.told out.old) (K.told out.new)) }
     ensures understood { result ≢ Status.Usage }
     ensures caused { IfSome (inputs_of (planned plan.now) (F.holds files.old)) (λ inputs. IsCaused (command_meaning (planned plan.now)) inputs result) }
-    ensures cut_short { result ≡ Status.WriteFault → IfSome (inputs_of (planned plan.now) (F.holds files.old)) (λ inputs. IsCutShort (command_meaning (planned plan.now)) inputs (K.told out.old) (K.told out.new)) }
+    ensures cut_short { result ≡ Status.WriteFault → IfSome (inputs_of (planned plan.now) (F.holds files.old)) (λ inputs. IsReportCutShort (command_meaning (planned plan.now)) inputs (K.told out.old) (K.told out.new)) }
     ensures answers { IsAnswer (command_meaning (planned plan.now)) result }
     ensures read_fault { Counts (F.faults files.old) (F.faults files.new) (result ≡ Status.ReadFault) (result ≢ Status.ReadFault) }
     ensures write_fault { Counts (K.faults out.old) (K.faults out.new) (result ≡ Status.WriteFault) (result ≢ Status.WriteFault) }

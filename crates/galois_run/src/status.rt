@@ -1,5 +1,5 @@
 ghost use Rattle.std.specs.Prelude.{◌≡◌, IfOk, string_bytes};
-ghost use Rattle.galois_run.specs.Statuses.{number_of, text_of, what_text, pair_text, IsBare};
+ghost use Rattle.galois_run.specs.Statuses.{status_code, text_of, what_text, pair_text, IsBare};
 
 use gx_base::{NoMemory, What, word_of};
 use std::alloc::{AllocError, Global};
@@ -30,7 +30,7 @@ pub enum Status {
 
 /// The number of a status, with which the program ends.
 pub fn status_number(status: &Status) -> u8
-    ensures { result ≡ number_of status.now }
+    ensures { result ≡ status_code status.now }
 {
     match status {
         Status::Ok => 0,

@@ -50,9 +50,9 @@ TellsOf rows s live asked None = first_failing rows s live asked ≡ None
 TellsOf rows s live asked (Some told) = (place : ℕ) × Tells rows s live asked told place
 
 -- nothing changed, and a conflict tells the first live entry that is in the way of the call
-abbrev pub RefusalFits : GateView → GateView → ℕ → ℕ → Item → Call → GateRefuse → Type 0
-RefusalFits old new worker iter item call (Conflict told) = TellsOf (rows_of old) (live_start old) old.live (asked_entry worker iter item call old.state) (Some told) × (new ≡ old)
-RefusalFits old new worker iter item call NoMemory = new ≡ old
+abbrev pub GateRefusalFits : GateView → GateView → ℕ → ℕ → Item → Call → GateRefuse → Type 0
+GateRefusalFits old new worker iter item call (Conflict told) = TellsOf (rows_of old) (live_start old) old.live (asked_entry worker iter item call old.state) (Some told) × (new ≡ old)
+GateRefusalFits old new worker iter item call NoMemory = new ≡ old
 
 -- the call and the reply of an entry
 abbrev pub call_of : Option Entry → Option (Call × Reply)

@@ -16,8 +16,8 @@ abbrev pub after : State → List Entry → State
 after s es = replays.after s (mades_of es)
 
 -- the calls of the entries replay from s to t, with their replies
-abbrev pub Legal : State → List Entry → State → Type 0
-Legal s es t = replays.Legal s (mades_of es) t
+abbrev pub LegalEntries : State → List Entry → State → Type 0
+LegalEntries s es t = replays.Legal s (mades_of es) t
 
 -- the state before entries that led to t
 abbrev pub start_of : State → List Entry → State
@@ -72,7 +72,7 @@ IsFirstFailing rows s live asked (Some found) =
 pub record LeadTo (rows : Rows) (live : List Entry) (asked : Entry) (state : State) : Type 0 where
   pub stands : IsState (start_of state (live ++ asked ∷ []))
   pub calls : AllCalls (live ++ asked ∷ [])
-  pub legal : Legal (start_of state (live ++ asked ∷ [])) (live ++ asked ∷ []) state
+  pub legal : LegalEntries (start_of state (live ++ asked ∷ [])) (live ++ asked ∷ []) state
   pub saw : AllSawRight rows (start_of state (live ++ asked ∷ [])) (live ++ asked ∷ [])
 
 -- a state that an object of the kind may have

@@ -10,7 +10,7 @@ use Rattle.gx_base.specs.Steps.{next_state, reply_to, inverse, observed}
 use Rattle.gx_base.specs.TableRows.{RowMap, row_map_code, row_of}
 use Rattle.gx_base.specs.Tables.{Rows, KeepsToKind, IsValid}
 use Rattle.gate_core.specs.Entries.{Each, entries_of, others_than, has_entry, last_of, without_last, done_under, mark_of, NumbersRise}
-use Rattle.gate_core.specs.Replays.{Legal, start_of, AllCalls, PairsFit, AllSawRight, first_failing, Stands}
+use Rattle.gate_core.specs.Replays.{LegalEntries, start_of, AllCalls, PairsFit, AllSawRight, first_failing, Stands}
 
 -- a gate as plain data: the number of its kind, its table, the state of its object, its entries, and its mark
 pub record GateView : Type 0 where
@@ -48,8 +48,8 @@ pub record IsLawfulGate (g : GateView) : Type 0 where
   pub stands : Stands g.kind (start g)
   pub done_calls : AllCalls g.done
   pub live_calls : AllCalls g.live
-  pub done_legal : Legal (start g) g.done (live_start g)
-  pub live_legal : Legal (live_start g) g.live g.state
+  pub done_legal : LegalEntries (start g) g.done (live_start g)
+  pub live_legal : LegalEntries (live_start g) g.live g.state
   -- two live entries of different iterations have a true row, and what a row may use of what a live entry saw is right
   pub pairs : PairsFit (rows_of g) (live_start g) g.live
   pub saw : AllSawRight (rows_of g) (live_start g) g.live

@@ -53,7 +53,7 @@ impl<T: SeqType, S: Screen<T>> Gate<T, S> {
     ghost use Rattle.gx_base.specs.Tables.{KeepsToKind, IsValid};
     ghost use Rattle.gate_core.specs.Entries.{last_of};
     ghost use Rattle.gate_core.specs.Views.{GateView, IsLawfulGate, undo_last, release};
-    ghost use Rattle.gate_core.specs.CallAnswers.{IsAdmitted, RefusalFits, call_of};
+    ghost use Rattle.gate_core.specs.CallAnswers.{IsAdmitted, GateRefusalFits, call_of};
 
     /// A gate with no entries.
     pub fn new(alloc: Global, object: T, kind: Kind, table: Table, screen: S) -> Gate<T, S>
@@ -128,7 +128,7 @@ impl<T: SeqType, S: Screen<T>> Gate<T, S> {
         call: Call,
     ) -> Result<Reply, GateRefuse>
         ensures ok { IfOk result (λ reply. IsAdmitted self.old self.new worker iter item call reply) }
-        ensures err { IfErr result (λ refuse. RefusalFits self.old self.new worker iter item call refuse) }
+        ensures err { IfErr result (λ refuse. GateRefusalFits self.old self.new worker iter item call refuse) }
     {
         take_memory(&mut self.object, &mut self.done, &mut self.live)?;
         let asked = ask(&mut self.object, &mut self.screen, worker, iter, item, call)?;

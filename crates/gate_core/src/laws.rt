@@ -14,7 +14,7 @@ ghost use Rattle.gx_base.specs.Steps.{next_state, reply_to, IsCall};
 ghost use Rattle.gx_base.specs.TableRows.{RowMap, row_of};
 ghost use Rattle.gx_base.specs.Tables.{Rows, KeepsToKind, IsValid};
 ghost use Rattle.gate_core.specs.Entries.{Each, same_iteration, entries_of, others_than, entries_by};
-ghost use Rattle.gate_core.specs.Replays.{after, Legal, pair_ok, Stands};
+ghost use Rattle.gate_core.specs.Replays.{after, LegalEntries, pair_ok, Stands};
 ghost use Rattle.gate_core.specs.Homes.{IsHomedGate};
 ghost use Rattle.gate_core.specs.Swaps.{Swapped};
 ghost use Rattle.gate_core.specs.Views.{GateView, IsLawfulGate, live_start, start, asked_entry, in_way, admit, undo_last, undo_times, release};
@@ -56,17 +56,17 @@ pub fn release_keeps_gates()
 
 /// The done entries and then the live ones lead from the start to the state.
 pub fn arrangements_replay()
-    ensures { (g : GateView) → IsLawfulGate g → Legal (start g) (g.done ++ g.live) g.state }
+    ensures { (g : GateView) → IsLawfulGate g → LegalEntries (start g) (g.done ++ g.live) g.state }
 {}
 
 /// The live entries of an iteration may stand before all other live ones.
 pub fn an_iteration_may_come_first()
-    ensures { (g : GateView) (worker iter : ℕ) → IsLawfulGate g → Legal (live_start g) (entries_of worker iter g.live ++ others_than worker iter g.live) g.state }
+    ensures { (g : GateView) (worker iter : ℕ) → IsLawfulGate g → LegalEntries (live_start g) (entries_of worker iter g.live ++ others_than worker iter g.live) g.state }
 {}
 
 /// One worker's live entries alone replay legally after the done ones.
 pub fn a_worker_replays_alone()
-    ensures { (g : GateView) (worker : ℕ) → IsLawfulGate g → Legal (start g) (g.done ++ entries_by worker g.live) (after (live_start g) (entries_by worker g.live)) }
+    ensures { (g : GateView) (worker : ℕ) → IsLawfulGate g → LegalEntries (start g) (g.done ++ entries_by worker g.live) (after (live_start g) (entries_by worker g.live)) }
 {}
 
 /// What rooms ask of the gates that they hold, each lawful gate has.

@@ -15,7 +15,7 @@ use Rattle.rooms.proofs.CallerLemmas.{put_same}
 use Rattle.iterate.specs.declared.events.Event.{Event as CodeEvent}
 use Rattle.iterate.specs.declared.events.Stop.{Stop}
 use Rattle.iterate.specs.Needs.{needs}
-use Rattle.iterate.specs.Places.{IsLogOf, IsFit, AreWithin, IsFitIn, IsBody, IfTold, book_of, IsBookIn, StandsOn}
+use Rattle.iterate.specs.Places.{IsLogOf, IsFit, AreStepsWithin, IsFitIn, IsBody, IfTold, book_of, IsBookIn, StandsOn}
 use Rattle.iterate.specs.SessionViews.{OpenCommit, SessionView}
 use Rattle.iterate.specs.Turns.{Answers, TakesTurn}
 use Rattle.iterate.specs.Visits.{BookWasVisited}
@@ -81,7 +81,7 @@ module _ {T S : Type 0} where
 
   module _ (op : Operator) (a b : RoomsView (Value T S)) (s t : SessionView) (was now : BookView) (visit : BookWasVisited a b was now) (fit : IsFit op a s) (none : s.opened ≡ None) (then_none : t.opened ≡ None)
       (same : t.worker ≡ s.worker) (now_ordered : now.ordered ≡ was.ordered) (log : (room : ℕ) (es : List Entry) → IsLogOf room s es → IsLogOf room t es)
-      (within : AreWithin op.rooms t.at.outcome.steps) (body : IsBody op t t.at.phase) where
+      (within : AreStepsWithin op.rooms t.at.outcome.steps) (body : IsBody op t t.at.phase) where
     abbrev after_place : Place
     after_place = record { gates = (book_place a s was).gates; book = now; session = t.at }
 
@@ -103,7 +103,7 @@ module _ {T S : Type 0} where
 
   module _ (op : Operator) (a b : RoomsView (Value T S)) (s t : SessionView) (room : ℕ) (loss : IsLost a b room) (fit : IsFit op a s) (none : s.opened ≡ None) (then_none : t.opened ≡ None)
       (same : t.worker ≡ s.worker) (needed : needs a.book s room ≡ true) (log : (other : ℕ) (es : List Entry) → IsLogOf other s es → IsLogOf other t es)
-      (within : AreWithin op.rooms t.at.outcome.steps) (body : IsBody op t t.at.phase) where
+      (within : AreStepsWithin op.rooms t.at.outcome.steps) (body : IsBody op t t.at.phase) where
     abbrev lost_place : Place
     lost_place = record (base_place a s) { session = t.at }
 

@@ -29,9 +29,9 @@ use Rattle.iterate.specs.declared.events.Event.TheVariants as events
 use Rattle.iterate.specs.declared.events.Stop.TheVariants as stops
 use Rattle.iterate.specs.declared.session.Phase.{Phase as CodePhase}
 use Rattle.iterate.specs.declared.session.Phase.TheVariants as code
-use Rattle.iterate.specs.Bodies.{IsAsking, IsNoted}
+use Rattle.iterate.specs.Bodies.{HasAsked, IsNoted}
 use Rattle.iterate.specs.Needs.{needs, to_put_back}
-use Rattle.iterate.specs.Places.{IsLogOf, IsFit, AreWithin, IsBookIn, StandsOn}
+use Rattle.iterate.specs.Places.{IsLogOf, IsFit, AreStepsWithin, IsBookIn, StandsOn}
 use Rattle.iterate.specs.SessionViews.{OpenCommit, Rests, Core, SessionView, view_in}
 use Rattle.iterate.specs.SharedTurns.{Shared, cut_at, stays}
 use Rattle.iterate.specs.Turns.{TakesTurn, TellsRight, IsAfter, event_of, is_conflict}
@@ -53,7 +53,7 @@ some_pair e = cc
 
 -- ---- the session that has asked a call
 
-pub asking_as : {St : Type 0} (room : ℕ) (call : CallOf) (f : CodePhase St) → IsAsking (Some (room, call)) f → (st : St) × (f ≡ code.Asking st room call)
+pub asking_as : {St : Type 0} (room : ℕ) (call : CallOf) (f : CodePhase St) → HasAsked (Some (room, call)) f → (st : St) × (f ≡ code.Asking st room call)
 asking_as room call code.Idle h = absurd h
 asking_as room call (code.Running st last) h = absurd h
 asking_as room call (code.Asking st other k) h = (st, asked_same st room other call k h) where
@@ -71,7 +71,7 @@ indexed [] place d x e = absurd (cc)
 indexed (y ∷ ys) zero d x e = cc
 indexed (y ∷ ys) (suc place) d x e = indexed ys place d x e
 
-append_within : (rooms : ℕ) (steps : List Step) (x : Step) → AreWithin rooms steps → x.room < rooms → AreWithin rooms (steps ++ x ∷ [])
+append_within : (rooms : ℕ) (steps : List Step) (x : Step) → AreStepsWithin rooms steps → x.room < rooms → AreStepsWithin rooms (steps ++ x ∷ [])
 append_within rooms [] x h l = (l, tt)
 append_within rooms (y ∷ ys) x h l = (h.0, append_within rooms ys x h.1 l)
 

@@ -27,8 +27,8 @@ use Rattle.rooms.proofs.CallerLemmas.{put_same, put_other, commits_entered_here,
 use Rattle.iterate.specs.declared.events.Event.{Event as CodeEvent}
 use Rattle.iterate.specs.declared.events.Event.TheVariants as events
 use Rattle.iterate.specs.declared.session.Phase.TheVariants as code
-use Rattle.iterate.specs.Places.{IsLogIn, IsLogOf, IsFit, AreWithin, IfTold, no_gate, gate_of}
-use Rattle.iterate.specs.RoomLists.{is_among, rooms_of, steps_in, AreBelow}
+use Rattle.iterate.specs.Places.{IsLogIn, IsLogOf, IsFit, AreStepsWithin, IfTold, no_gate, gate_of}
+use Rattle.iterate.specs.RoomLists.{is_among, rooms_of, steps_in, AreRoomsBelow}
 use Rattle.iterate.specs.SessionViews.{OpenCommit, Rests, Core, SessionView, view_in}
 use Rattle.iterate.specs.SharedTurns.{Shared, shared_in, released, stays, cut_at, cut_commit, begun_commit, rest_of_commit}
 use Rattle.iterate.specs.Turns.{TakesTurn, HasTurned, Answers, IsAfter, TellsRight, event_of, limit_on, is_commit}
@@ -45,7 +45,7 @@ among_by : (n x room : ℕ) (rest : Bool) → x < n → (rest ≡ true → room 
 among_by n x room rest l h true e m = subst (λ k. k < n) (numbers_equal x room e) l
 among_by n x room rest l h false e m = h (sym (ap (λ (b : Bool). b || rest) e) ∙ m)
 
-among_is_below : (n : ℕ) (xs : List ℕ) (room : ℕ) → AreBelow n xs → is_among xs room ≡ true → room < n
+among_is_below : (n : ℕ) (xs : List ℕ) (room : ℕ) → AreRoomsBelow n xs → is_among xs room ≡ true → room < n
 among_is_below n [] room h m = absurd (cc)
 among_is_below n (x ∷ xs) room h m = among_by n x room (is_among xs room) h.0 (among_is_below n xs room h.1) (x == room) refl m
 
@@ -118,7 +118,7 @@ module _ {T S St : Type 0} (op : Operator) (a b : RoomsView (Value T S)) (rest :
     ordered_told = fit.ordered_told;
     live = λ room l. subst (λ steps. IsLogIn room c.worker c.iter c.item steps (a.live room)) (sym log_is) (fit.live room l);
     live_told = λ room l. told_log (a.told room) room (fit.live_told room l);
-    within = subst (AreWithin op.rooms) (sym log_is) fit.within;
+    within = subst (AreStepsWithin op.rooms) (sym log_is) fit.within;
     doing = (
       (λ room. held_by room (a.book == room) refl),
       record {
@@ -206,7 +206,7 @@ module _ {T S St : Type 0} (op : Operator) (a b : RoomsView (Value T S)) (rest :
 
   -- a room that is left isn't the book's
   left_below : (room : ℕ) → is_among left room ≡ true → (a.book == room) ≡ false
-  left_below room m = other_than_book a.book room (among_is_below a.book left room (subst (λ n. AreBelow n left) (sym fit.book) (rooms_below op.rooms c.log fit.within)) m)
+  left_below room m = other_than_book a.book room (among_is_below a.book left room (subst (λ n. AreRoomsBelow n left) (sym fit.book) (rooms_below op.rooms c.log fit.within)) m)
 
   module _ (unnamed_is : is_named was c.worker c.iter ≡ false) (unordered : was.ordered ≡ false) (may : MayCommit (has_item was.ready c.item) (is_spent was) (is_past_journal was (length c.log))) where
     lift_inside : (t : SessionView) (e : CodeEvent) → TakesTurn op inside b making t (Ok e) → TakesTurn op a b finished t (Ok e)

@@ -14,7 +14,7 @@ use Rattle.rooms.proofs.CallerLemmas.{put_same, put_itself}
 use Rattle.rooms.specs.RoomsViews.{RoomsView}
 use Rattle.rooms.specs.declared.values.Value.{Value}
 use Rattle.iterate.specs.Places.{IsBody, IsFitIn}
-use Rattle.iterate.specs.PlayedTurns.{MayTurn, IsTurn, IsStopped, left_off, with_left_off, with_undo}
+use Rattle.iterate.specs.PlayedTurns.{MayTurn, IsTurn, IsStoppedTurn, left_off, with_left_off, with_undo}
 use Rattle.iterate.specs.Turns.{may_stop_at}
 use Rattle.iterate.specs.declared.events.Stop.{Stop}
 use Rattle.iterate.specs.SessionViews.{OpenCommit, SessionView}
@@ -200,7 +200,7 @@ never_stops_at Finished l n h = absurd (cc)
 never_stops_at Undoing l n h = absurd (cc)
 
 module _ (op : Operator) (m : Machine) (worker : ℕ) (left : left_off (m.sessions worker).phase ≡ (m.sessions worker).phase) (live : is_idle (m.sessions worker).phase ≡ false) where
-  pub never_stops : (stop : Stop) → IsStopped op m worker stop → ⊥
+  pub never_stops : (stop : Stop) → IsStoppedTurn op m worker stop → ⊥
   never_stops stop h = never_stops_at (m.sessions worker).phase left live h.may
 
   pub drained_turn : (n : Machine) (trace traced : List Turn) (e : Event) → IsTurn op m n worker e → traced ≡ with_undo trace worker e → record { machine = n; trace = traced } ≡ drain_step (record { machine = m; trace = trace }) worker

@@ -17,7 +17,7 @@ use Rattle.rooms.specs.declared.values.Value.TheVariants.{Object}
 use Rattle.rooms.proofs.CallerLemmas.{put_same, put_other}
 use Rattle.iterate.specs.declared.events.Event.{Event as CodeEvent}
 use Rattle.iterate.specs.declared.events.Stop.{Stop}
-use Rattle.iterate.specs.Places.{IsLogOf, IsFit, AreWithin, IsFitIn, gate_of, book_of, IfTold, IsBookIn, StandsOn}
+use Rattle.iterate.specs.Places.{IsLogOf, IsFit, AreStepsWithin, IsFitIn, gate_of, book_of, IfTold, IsBookIn, StandsOn}
 use Rattle.iterate.specs.SessionViews.{OpenCommit, SessionView}
 use Rattle.iterate.specs.Turns.{OthersStay, Answers, TakesTurn, IsLostIn}
 use Rattle.iterate.specs.Visits.{WasVisited}
@@ -70,7 +70,7 @@ module _ {T S : Type 0} where
       (p_book q_book : BookView) (p_in : IsBookIn a None p_book) (p_ordered : p_book.ordered ≡ a.ordered) (q_in : IsBookIn b t.opened q_book) (q_ordered : q_book.ordered ≡ a.ordered)
       (lost : Option ℕ) (found : IsLostIn a b s lost)
       (log : IsLogOf room t now.live) (others : OthersStay s.worker was.live now.live) (elsewhere : (other : ℕ) → (room == other) ≡ false → (es : List Entry) → IsLogOf other s es → IsLogOf other t es)
-      (within : AreWithin op.rooms t.at.outcome.steps) (doing : IsFitIn op b t t.opened) where
+      (within : AreStepsWithin op.rooms t.at.outcome.steps) (doing : IsFitIn op b t t.opened) where
     abbrev p : Place
     p = gate_place a s room was p_book
 

@@ -12,7 +12,7 @@ use Rattle.speculation.specs.Sessions.{has_no_step}
 use Rattle.speculation.proofs.Putting.{numbers_equal}
 use Rattle.speculation.proofs.Steps.{is_none}
 use Rattle.rooms.specs.RoomsViews.{RoomsView, entries_for, told_with, entered, left, is_held}
-use Rattle.rooms.specs.HandedOut.{IsTold, IsLost, HasRisen}
+use Rattle.rooms.specs.HandedOut.{IsValueTold, IsLost, CountHasRisen}
 use Rattle.rooms.specs.Values.{tells}
 use Rattle.rooms.specs.declared.values.Value.{Value}
 use Rattle.rooms.specs.declared.values.Value.TheVariants.{Object}
@@ -22,7 +22,7 @@ use Rattle.iterate.specs.declared.events.Stop.{Stop}
 use Rattle.iterate.specs.declared.session.Phase.{Phase as CodePhase}
 use Rattle.iterate.specs.declared.session.Phase.TheVariants as code
 use Rattle.iterate.specs.Needs.{needs}
-use Rattle.iterate.specs.Places.{IsLogIn, IsLogOf, IsFit, AreWithin, IfTold, book_of, IsBookIn, StandsOn}
+use Rattle.iterate.specs.Places.{IsLogIn, IsLogOf, IsFit, AreStepsWithin, IfTold, book_of, IsBookIn, StandsOn}
 use Rattle.iterate.specs.SessionViews.{OpenCommit, Rests, Core, SessionView, view_in}
 use Rattle.iterate.specs.Turns.{Answers, TakesTurn, IsLostIn}
 use Rattle.iterate.specs.Visits.{WasVisited, BookWasVisited, GaveUp, has_calls, is_over, owes}
@@ -43,7 +43,7 @@ module _ {T S : Type 0} where
   pub quiet_itself : (a : RoomsView (Value T S)) → ((room : ℕ) → is_held a room ≡ false) → Quiet a a
   quiet_itself a free = record { gates = same_gates a; free = free; lost = λ room. refl; told_book = refl }
 
-  told_again : (o : Option (Value T S)) (g : GateView) → IsTold o (Object g) → told_with o (Object g) ≡ o
+  told_again : (o : Option (Value T S)) (g : GateView) → IsValueTold o (Object g) → told_with o (Object g) ≡ o
   told_again None g h = refl
   told_again (Some value) g h = ap Some h
 
@@ -84,7 +84,7 @@ module _ {T S : Type 0} where
 
   module _ {St : Type 0} (op : Operator) (a x b : RoomsView (Value T S)) (rest : Rests St) (s : SessionView) (c : Core) (quiet : Quiet a x) (fit : IsFit op a s) (none : s.opened ≡ None) (same : c.worker ≡ s.worker)
       (gates : ℕ → GateView) (stand : (bk : BookView) → IsBookIn a None bk → bk.ordered ≡ a.ordered → StandsOn a s (record { gates = gates; book = bk; session = s.at }))
-      (log : (room : ℕ) (es : List Entry) → IsLogOf room s es → IsLogIn room c.worker c.iter c.item c.log es) (within : AreWithin op.rooms c.log) (needed : has_no_step c.log ≡ true → needs a.book s a.book ≡ true) where
+      (log : (room : ℕ) (es : List Entry) → IsLogOf room s es → IsLogIn room c.worker c.iter c.item c.log es) (within : AreStepsWithin op.rooms c.log) (needed : has_no_step c.log ≡ true → needs a.book s a.book ≡ true) where
     abbrev undoing : SessionView
     undoing = view_in rest c code.Undoing
 
@@ -144,13 +144,13 @@ module _ {T S : Type 0} where
     others_by h other n true e = absurd (n (ap Some (numbers_equal a.book other e)))
     others_by h other n false e = ap (λ (v : RoomsView (Value T S)). v.lost other) h.same ∙ put_other x.lost x.book (b.lost x.book) other (ap (λ m. m == other) x_book ∙ e) ∙ quiet.lost other
 
-    risen : IsLost x b x.book → HasRisen (a.lost a.book) (b.lost a.book)
-    risen h = subst (λ n. HasRisen n (b.lost a.book)) (quiet.lost a.book) (subst (λ n. HasRisen (x.lost n) (b.lost n)) x_book h.risen)
+    risen : IsLost x b x.book → CountHasRisen (a.lost a.book) (b.lost a.book)
+    risen h = subst (λ n. CountHasRisen n (b.lost a.book)) (quiet.lost a.book) (subst (λ n. CountHasRisen (x.lost n) (b.lost n)) x_book h.risen)
 
     quiet_loss : IsLost x b x.book → needs a.book s a.book ≡ true → IsLostIn a b s (Some a.book)
     quiet_loss h n = record {
       needed = λ other e. subst (λ r. needs a.book s r ≡ true) (some_number e) n;
-      risen = λ other e. subst (λ r. HasRisen (a.lost r) (b.lost r)) (some_number e) (risen h);
+      risen = λ other e. subst (λ r. CountHasRisen (a.lost r) (b.lost r)) (some_number e) (risen h);
       others = λ other m. others_by h other m (a.book == other) refl;
     }
 

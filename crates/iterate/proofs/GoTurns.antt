@@ -28,7 +28,7 @@ use Rattle.iterate.specs.declared.events.Stop.{Stop}
 use Rattle.iterate.specs.declared.events.Stop.TheVariants as stops
 use Rattle.iterate.specs.declared.session.Phase.{Phase as CodePhase}
 use Rattle.iterate.specs.declared.session.Phase.TheVariants as code
-use Rattle.iterate.specs.Bodies.{IsAtWork, IsAskedIn, IsAsking, HasGoneOn}
+use Rattle.iterate.specs.Bodies.{IsAtWork, IsAskedIn, HasAsked, HasGoneOn}
 use Rattle.iterate.specs.Needs.{come_to, gone_on, to_put_back, needs_in, needs}
 use Rattle.iterate.specs.Places.{IsFit, IsBody, IsAskedWithin}
 use Rattle.iterate.specs.RoomLists.{is_among, rooms_of}
@@ -253,7 +253,7 @@ module _ {T S St : Type 0} (op : Operator) (a b : RoomsView (Value T S)) (rest :
   abbrev further_core : Core
   further_core = record c { pushes = pushes }
 
-  lift_by : (f g : CodePhase St) (asked : Option (ℕ × CallOf)) → IsAtWork f → IsAsking asked g → at_in rest further_core g ≡ gone_on (at_in rest c f) → (t : SessionView) (r : Result CodeEvent Stop)
+  lift_by : (f g : CodePhase St) (asked : Option (ℕ × CallOf)) → IsAtWork f → HasAsked asked g → at_in rest further_core g ≡ gone_on (at_in rest c f) → (t : SessionView) (r : Result CodeEvent Stop)
       → TakesTurn op a b (view_in rest further_core g) t r → TakesTurn op a b (view_in rest c f) t r
   lift_by code.Idle g asked w k e t r h = absurd w
   lift_by (code.Running st last) code.Idle asked w k e t r h = absurd k
@@ -274,7 +274,7 @@ module _ {T S St : Type 0} (op : Operator) (a b : RoomsView (Value T S)) (rest :
   lift_by (code.Committing book number left) g asked w k e t r h = absurd w
   lift_by code.Undoing g asked w k e t r h = absurd w
 
-  fits_by : (f g : CodePhase St) (asked : Option (ℕ × CallOf)) → IsAtWork f → IsAsking asked g → IsAskedIn op.rooms asked → at_in rest further_core g ≡ gone_on (at_in rest c f) → IsFit op a (view_in rest c f) → IsFit op a (view_in rest further_core g)
+  fits_by : (f g : CodePhase St) (asked : Option (ℕ × CallOf)) → IsAtWork f → HasAsked asked g → IsAskedIn op.rooms asked → at_in rest further_core g ≡ gone_on (at_in rest c f) → IsFit op a (view_in rest c f) → IsFit op a (view_in rest further_core g)
   fits_by code.Idle g asked w k m e fit = absurd w
   fits_by (code.Running st last) code.Idle asked w k m e fit = absurd k
   fits_by (code.Running st last) (code.Running to reply) asked w k m e fit = absurd k

@@ -5,8 +5,8 @@ use Rattle.gx_base.specs.declared.acts.Step.{Step}
 use Rattle.gx_base.specs.declared.calls.Made.{Made}
 use Rattle.gx_base.specs.Replays.{part, made_by}
 use Rattle.speculation.proofs.Putting.{no_bool, numbers_equal, same_number}
-use Rattle.iterate.specs.Places.{AreWithin}
-use Rattle.iterate.specs.RoomLists.{is_among, steps_in, before, on_from, AreAbove, AreRising, AreBelow}
+use Rattle.iterate.specs.Places.{AreStepsWithin}
+use Rattle.iterate.specs.RoomLists.{is_among, steps_in, before, on_from, AreAbove, AreRoomsRising, AreRoomsBelow}
 
 pub both_false : (p q : Bool) → (p || q) ≡ false → (p ≡ false) × (q ≡ false)
 both_false true q e = absurd (cc)
@@ -21,11 +21,11 @@ among_both (x ∷ xs) ys room = ap (λ (b : Bool). (x == room) || b) (among_both
 
 -- ---- below a number
 
-pub below_end : (n : ℕ) (xs ys : List ℕ) → AreBelow n (xs ++ ys) → AreBelow n ys
+pub below_end : (n : ℕ) (xs ys : List ℕ) → AreRoomsBelow n (xs ++ ys) → AreRoomsBelow n ys
 below_end n [] ys h = h
 below_end n (x ∷ xs) ys h = below_end n xs ys h.1
 
-pub below_front : (n : ℕ) (xs ys : List ℕ) → AreBelow n (xs ++ ys) → AreBelow n xs
+pub below_front : (n : ℕ) (xs ys : List ℕ) → AreRoomsBelow n (xs ++ ys) → AreRoomsBelow n xs
 below_front n [] ys h = tt
 below_front n (x ∷ xs) ys h = (h.0, below_front n xs ys h.1)
 
@@ -33,7 +33,7 @@ not_among_by : (n x room : ℕ) (rest : Bool) → x < n → n ≤ room → rest 
 not_among_by n x room rest l m h true e = let same : x ≡ room = numbers_equal x room e in absurd (omega arith)
 not_among_by n x room rest l m h false e = ap (λ (b : Bool). b || rest) e ∙ h
 
-pub not_among : (n : ℕ) (xs : List ℕ) (room : ℕ) → AreBelow n xs → n ≤ room → is_among xs room ≡ false
+pub not_among : (n : ℕ) (xs : List ℕ) (room : ℕ) → AreRoomsBelow n xs → n ≤ room → is_among xs room ≡ false
 not_among n [] room h l = refl
 not_among n (x ∷ xs) room h l = not_among_by n x room (is_among xs room) h.0 l (not_among n xs room h.1 l) (x == room) refl
 
@@ -43,7 +43,7 @@ above_end : (x : ℕ) (xs ys : List ℕ) → AreAbove x (xs ++ ys) → AreAbove 
 above_end x [] ys h = h
 above_end x (y ∷ xs) ys h = above_end x xs ys h.1
 
-pub rising_end : (xs ys : List ℕ) → AreRising (xs ++ ys) → AreRising ys
+pub rising_end : (xs ys : List ℕ) → AreRoomsRising (xs ++ ys) → AreRoomsRising ys
 rising_end [] ys h = h
 rising_end (x ∷ xs) ys h = rising_end xs ys h.1
 
@@ -60,7 +60,7 @@ apart_by x xs ys room l h true e m = not_above x ys room (numbers_equal x room e
 apart_by x xs ys room l h false e m = h (sym (ap (λ (b : Bool). b || is_among xs room) e) ∙ m)
 
 -- the two parts of a rising list have no room in common
-pub apart : (xs ys : List ℕ) (room : ℕ) → AreRising (xs ++ ys) → is_among xs room ≡ true → is_among ys room ≡ false
+pub apart : (xs ys : List ℕ) (room : ℕ) → AreRoomsRising (xs ++ ys) → is_among xs room ≡ true → is_among ys room ≡ false
 apart [] ys room h m = absurd (cc)
 apart (x ∷ xs) ys room h m = apart_by x xs ys room (above_end x xs ys h.0) (apart xs ys room h.1) (x == room) refl m
 
@@ -116,10 +116,10 @@ module _ (some all : List ℕ) (within : (room : ℕ) → is_among some room ≡
   steps_in_twice [] = refl
   steps_in_twice (x ∷ xs) = twice_by x xs (is_among all x.room) (is_among some x.room) refl refl (steps_in_twice xs)
 
-within_by : (n : ℕ) (x : Step) (ys : List Step) (b : Bool) → x.room < n → AreWithin n ys → AreWithin n (if b then x ∷ ys else ys)
+within_by : (n : ℕ) (x : Step) (ys : List Step) (b : Bool) → x.room < n → AreStepsWithin n ys → AreStepsWithin n (if b then x ∷ ys else ys)
 within_by n x ys true l h = (l, h)
 within_by n x ys false l h = h
 
-pub steps_within : (n : ℕ) (rooms : List ℕ) (steps : List Step) → AreWithin n steps → AreWithin n (steps_in rooms steps)
+pub steps_within : (n : ℕ) (rooms : List ℕ) (steps : List Step) → AreStepsWithin n steps → AreStepsWithin n (steps_in rooms steps)
 steps_within n rooms [] h = tt
 steps_within n rooms (x ∷ xs) h = within_by n x (steps_in rooms xs) (is_among rooms x.room) h.0 (steps_within n rooms xs h.1)

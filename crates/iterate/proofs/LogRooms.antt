@@ -12,8 +12,8 @@ use Rattle.gx_base.specs.declared.acts.Step.{Step}
 use Rattle.gate_core.specs.Entries.{is_of, entries_of, others_than, has_entry, done_under}
 use Rattle.gate_core.specs.Views.{GateView, release}
 use Rattle.speculation.proofs.Putting.{same_number}
-use Rattle.iterate.specs.Places.{AreWithin}
-use Rattle.iterate.specs.RoomLists.{is_among, rooms_of, steps_in, AreAbove, AreRising, AreBelow}
+use Rattle.iterate.specs.Places.{AreStepsWithin}
+use Rattle.iterate.specs.RoomLists.{is_among, rooms_of, steps_in, AreAbove, AreRoomsRising, AreRoomsBelow}
 
 -- ---- a number more
 
@@ -41,12 +41,12 @@ module _ (k room : ℕ) where
   among_with (x ∷ xs) = among_by x xs (nat_cmp k x) (ranked k x (nat_cmp k x) refl) (among_with xs)
 
 module _ (k n : ℕ) (l : k < n) where
-  below_by : (x : ℕ) (xs : List ℕ) (o : Ordering) → x < n → AreBelow n xs → AreBelow n (with_number xs k) → AreBelow n (match_ordering o (k ∷ x ∷ xs) (x ∷ xs) (x ∷ with_number xs k))
+  below_by : (x : ℕ) (xs : List ℕ) (o : Ordering) → x < n → AreRoomsBelow n xs → AreRoomsBelow n (with_number xs k) → AreRoomsBelow n (match_ordering o (k ∷ x ∷ xs) (x ∷ xs) (x ∷ with_number xs k))
   below_by x xs Less m h i = (l, (m, h))
   below_by x xs Equal m h i = (m, h)
   below_by x xs Greater m h i = (m, i)
 
-  below_with : (xs : List ℕ) → AreBelow n xs → AreBelow n (with_number xs k)
+  below_with : (xs : List ℕ) → AreRoomsBelow n xs → AreRoomsBelow n (with_number xs k)
   below_with [] h = (l, tt)
   below_with (x ∷ xs) h = below_by x xs (nat_cmp k x) h.0 h.1 (below_with xs h.1)
 
@@ -64,22 +64,22 @@ above_less : (k x : ℕ) (xs : List ℕ) → k < x → AreAbove x xs → AreAbov
 above_less k x [] l h = tt
 above_less k x (y ∷ ys) l h = (omega (arith, h.0), above_less k x ys l h.1)
 
-rising_by : (k x : ℕ) (xs : List ℕ) (o : Ordering) → MatchOrdering o (k < x) (k ≡ x) (x < k) → AreAbove x xs → AreRising xs → AreRising (with_number xs k) → AreRising (match_ordering o (k ∷ x ∷ xs) (x ∷ xs) (x ∷ with_number xs k))
+rising_by : (k x : ℕ) (xs : List ℕ) (o : Ordering) → MatchOrdering o (k < x) (k ≡ x) (x < k) → AreAbove x xs → AreRoomsRising xs → AreRoomsRising (with_number xs k) → AreRoomsRising (match_ordering o (k ∷ x ∷ xs) (x ∷ xs) (x ∷ with_number xs k))
 rising_by k x xs Less h m r i = ((h, above_less k x xs h m), (m, r))
 rising_by k x xs Equal h m r i = (m, r)
 rising_by k x xs Greater h m r i = (above_with k x h xs m, i)
 
-rising_with : (k : ℕ) (xs : List ℕ) → AreRising xs → AreRising (with_number xs k)
+rising_with : (k : ℕ) (xs : List ℕ) → AreRoomsRising xs → AreRoomsRising (with_number xs k)
 rising_with k [] h = (tt, tt)
 rising_with k (x ∷ xs) h = rising_by k x xs (nat_cmp k x) (ranked k x (nat_cmp k x) refl) h.0 h.1 (rising_with k xs h.1)
 
 -- ---- the rooms of steps
 
-pub rooms_rise : (steps : List Step) → AreRising (rooms_of steps)
+pub rooms_rise : (steps : List Step) → AreRoomsRising (rooms_of steps)
 rooms_rise [] = tt
 rooms_rise (x ∷ xs) = rising_with x.room (rooms_of xs) (rooms_rise xs)
 
-pub rooms_below : (n : ℕ) (steps : List Step) → AreWithin n steps → AreBelow n (rooms_of steps)
+pub rooms_below : (n : ℕ) (steps : List Step) → AreStepsWithin n steps → AreRoomsBelow n (rooms_of steps)
 rooms_below n [] h = tt
 rooms_below n (x ∷ xs) h = below_with x.room n h.0 (rooms_of xs) (rooms_below n xs h.1)
 

@@ -8,7 +8,7 @@ use Rattle.speculation.specs.Machines.{Machine, turn}
 use Rattle.speculation.specs.Premises.{AloneAsk}
 use Rattle.speculation.specs.ScheduledRuns.{is_empty, alone}
 use Rattle.iterate.specs.declared.events.Stop.{Stop}
-use Rattle.iterate.specs.PlayedTurns.{IsTurn, IsStopped, IsLoneRun}
+use Rattle.iterate.specs.PlayedTurns.{IsTurn, IsStoppedTurn, IsEmptiedAlone}
 use Rattle.iterate.specs.Plays.{stop_of}
 use Rattle.iterate.specs.Turns.{IsCause}
 use Rattle.iterate.proofs.Schedules.{stop_cause}
@@ -62,7 +62,7 @@ module _ (op : Operator) where
   no_limit m = refl
 
   -- nothing is ready
-  pub ends_alone : (first now : Machine) → LeadsTo op first now → is_empty now.book.ready ≡ true → IsLoneRun op first now
+  pub ends_alone : (first now : Machine) → LeadsTo op first now → is_empty now.book.ready ≡ true → IsEmptiedAlone op first now
   ends_alone first now h e = record {
     turns = h.turns + 0;
     machine_is = sym (h.machine 0 ∙ no_turn now);
@@ -72,7 +72,7 @@ module _ (op : Operator) where
   }
 
   -- a turn that stops
-  pub stops_alone : (first now : Machine) (l : Limit) (stop : Stop) → LeadsTo op first now → is_empty now.book.ready ≡ false → IsStopped op now 0 stop → stop ≡ stop_of l → (turns : ℕ) × (limit_of_alone op first turns ≡ Some l)
+  pub stops_alone : (first now : Machine) (l : Limit) (stop : Stop) → LeadsTo op first now → is_empty now.book.ready ≡ false → IsStoppedTurn op now 0 stop → stop ≡ stop_of l → (turns : ℕ) × (limit_of_alone op first turns ≡ Some l)
   stops_alone first now l stop h e s is =
       let passed : limit_in op now 0 ≡ Some l = stop_cause l (limit_in op now 0) (subst (λ (x : Stop). IsCause x (limit_in op now 0)) is s.cause) in
       (h.turns + 1, h.limit 1 ∙ one_limited_alone now 0 e ∙ ap (λ (o : Option Limit). or_later o (limit_of_alone op (turn op now 0) 0)) passed)

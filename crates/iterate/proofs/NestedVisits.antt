@@ -7,7 +7,7 @@ use Rattle.gate_core.specs.Views.{GateView}
 use Rattle.commit_book.specs.BookViews.{BookView}
 use Rattle.speculation.proofs.Putting.{numbers_equal}
 use Rattle.rooms.specs.RoomsViews.{RoomsView, told_with, entered, left, is_held}
-use Rattle.rooms.specs.HandedOut.{IsHandedOut, IsLost, HasRisen}
+use Rattle.rooms.specs.HandedOut.{IsHandedOut, IsLost, CountHasRisen}
 use Rattle.rooms.specs.Values.{tells}
 use Rattle.rooms.specs.declared.values.Value.{Value}
 use Rattle.rooms.specs.declared.values.Value.TheVariants.{Object, Book}
@@ -86,7 +86,7 @@ pub record LostNested {T S : Type 0} (a b : RoomsView (Value T S)) (room : ℕ) 
   pub gates : SameGates a b
   pub told : IsBookIn b None seen
   pub free : (other : ℕ) → is_held b other ≡ false
-  pub risen : HasRisen (a.lost room) (b.lost room)
+  pub risen : CountHasRisen (a.lost room) (b.lost room)
   pub others : (other : ℕ) → (room == other) ≡ false → b.lost other ≡ a.lost other
 
 pub lost_nested : {T S : Type 0} (a x y b : RoomsView (Value T S)) (room : ℕ) (seen : BookView) → IsHandedOut tells a a.book (Book seen) → x ≡ entered a a.book (tells {T = T} {S = S} (Book seen)) → IsLost x y room
@@ -103,7 +103,7 @@ lost_nested {T} {S} a x y b room seen handed enters loss leaves free =
       gates = subst (SameGates a) (sym b_is) (record { book = gates.book; ordered = gates.ordered; acts_for = gates.acts_for; telling = gates.telling; ordered_told = gates.ordered_told; live = gates.live; told = gates.told });
       told = subst (λ (v : RoomsView (Value T S)). IsBookIn v None seen) (sym b_is) (book_visit_told a at_once seen seen visit);
       free = λ other. ap (λ (v : RoomsView (Value T S)). is_held v other) b_is ∙ book_visit_free a at_once seen seen visit free other;
-      risen = subst (λ n. HasRisen (a.lost room) n) (sym (ap (λ (v : RoomsView (Value T S)). v.lost room) b_is ∙ put_same a.lost room (y.lost room))) loss_e.risen;
+      risen = subst (λ n. CountHasRisen (a.lost room) n) (sym (ap (λ (v : RoomsView (Value T S)). v.lost room) b_is ∙ put_same a.lost room (y.lost room))) loss_e.risen;
       others = λ other n. ap (λ (v : RoomsView (Value T S)). v.lost other) b_is ∙ put_other a.lost room (y.lost room) other n;
     }
 
@@ -115,6 +115,6 @@ module _ {T S : Type 0} (a b : RoomsView (Value T S)) (s : SessionView) (room : 
   pub nested_loss : {seen : BookView} → LostNested a b room seen → needs a.book s room ≡ true → IsLostIn a b s (Some room)
   nested_loss l n = record {
     needed = λ other e. subst (λ r. needs a.book s r ≡ true) (some_number e) n;
-    risen = λ other e. subst (λ r. HasRisen (a.lost r) (b.lost r)) (some_number e) l.risen;
+    risen = λ other e. subst (λ r. CountHasRisen (a.lost r) (b.lost r)) (some_number e) l.risen;
     others = λ other m. others_by l.others other m (room == other) refl;
   }

@@ -14,7 +14,7 @@ use Rattle.rooms.specs.declared.values.Value.{Value}
 use Rattle.rooms.specs.declared.values.Value.TheVariants.{Object}
 use Rattle.rooms.proofs.CallerLemmas.{put_same, put_other, put_back_again, held_entered, held_elsewhere, mark_entered_here, commits_entered_elsewhere}
 use Rattle.iterate.specs.Places.{no_gate, gate_of, IfTold}
-use Rattle.iterate.specs.RoomLists.{is_among, rest_of, AreAbove, AreRising, AreBelow}
+use Rattle.iterate.specs.RoomLists.{is_among, rest_of, AreAbove, AreRoomsRising, AreRoomsBelow}
 use Rattle.iterate.specs.Visits.{MayLeaveGate, WasVisited, AreReleased, MayRelease}
 use Rattle.iterate.proofs.Standing.{told_gate}
 use Rattle.iterate.proofs.Visiting.{other_than_room}
@@ -44,11 +44,11 @@ not_first x room rest l h true e = let same : x ≡ room = numbers_equal x room 
 not_first x room rest l h false e = ap (λ (b : Bool). b || rest) e ∙ h
 
 -- a room of a rising list isn't among those before it
-pub not_in_front : (front : List ℕ) (room : ℕ) (rest : List ℕ) → AreRising (front ++ room ∷ rest) → is_among front room ≡ false
+pub not_in_front : (front : List ℕ) (room : ℕ) (rest : List ℕ) → AreRoomsRising (front ++ room ∷ rest) → is_among front room ≡ false
 not_in_front [] room rest h = refl
 not_in_front (x ∷ xs) room rest h = not_first x room (is_among xs room) (above_append x xs room rest h.0) (not_in_front xs room rest h.1) (x == room) refl
 
-pub below_at : (n : ℕ) (front : List ℕ) (room : ℕ) (rest : List ℕ) → AreBelow n (front ++ room ∷ rest) → room < n
+pub below_at : (n : ℕ) (front : List ℕ) (room : ℕ) (rest : List ℕ) → AreRoomsBelow n (front ++ room ∷ rest) → room < n
 below_at n [] room rest h = h.0
 below_at n (x ∷ xs) room rest h = below_at n xs room rest h.1
 

@@ -15,7 +15,7 @@ use Rattle.speculation.specs.Machines.{Place}
 use Rattle.speculation.proofs.Putting.{no_bool, numbers_equal, same_number}
 use Rattle.speculation.proofs.GateTurns.{log_releases}
 use Rattle.rooms.specs.RoomsViews.{RoomsView, is_held, commits_in, commits_entered, entries_for, told_with, left as rooms_left}
-use Rattle.rooms.specs.HandedOut.{IsLost, HasRisen}
+use Rattle.rooms.specs.HandedOut.{IsLost, CountHasRisen}
 use Rattle.rooms.specs.Values.{tells}
 use Rattle.rooms.specs.declared.values.Value.{Value}
 use Rattle.rooms.specs.declared.values.Value.TheVariants.{Object, Book}
@@ -23,12 +23,12 @@ use Rattle.rooms.proofs.CallerLemmas.{put_same, put_other}
 use Rattle.iterate.specs.declared.events.Event.TheVariants as events
 use Rattle.iterate.specs.declared.session.Phase.TheVariants as code
 use Rattle.iterate.specs.Needs.{needs}
-use Rattle.iterate.specs.Places.{IsLogIn, IsLogOf, IsFit, IsFitIn, IsCommitOf, AreWithin, IfTold, gate_of, book_of, IsBookIn, StandsOn}
-use Rattle.iterate.specs.RoomLists.{is_among, steps_in, before, on_from, AreRising, AreBelow}
+use Rattle.iterate.specs.Places.{IsLogIn, IsLogOf, IsFit, IsFitIn, IsCommitOf, AreStepsWithin, IfTold, gate_of, book_of, IsBookIn, StandsOn}
+use Rattle.iterate.specs.RoomLists.{is_among, steps_in, before, on_from, AreRoomsRising, AreRoomsBelow}
 use Rattle.iterate.specs.SessionViews.{OpenCommit, Rests, Core, SessionView, view_in}
 use Rattle.iterate.specs.SharedTurns.{released}
 use Rattle.iterate.specs.Turns.{OthersStay, TakesTurn}
-use Rattle.iterate.specs.Visits.{AreReleased, IsCutShort, MayLeaveBook}
+use Rattle.iterate.specs.Visits.{AreReleased, IsReleaseCutShort, MayLeaveBook}
 use Rattle.iterate.proofs.Logs.{log_sound, sound_log, log_shown, others_release}
 use Rattle.iterate.proofs.Standing.{RoomKept, GateLeft, AreLeft, fits, told_book_itself, base_gates, base_gates_told, base_no_others, base_logs}
 use Rattle.iterate.proofs.Visiting.{SameGates, OrderedTold, carried, lost_gates, book_gates}
@@ -38,7 +38,7 @@ use Rattle.iterate.proofs.ReleaseSteps.{not_in_front, among_at}
 use Rattle.iterate.proofs.UndoTurns.{or_right}
 
 module _ {T S : Type 0} (op : Operator) (a mid b : RoomsView (Value T S)) (s t : SessionView) (front : List ℕ) (iter number : ℕ) (fit : IsFit op a s) (h : AreReleased a mid s.worker iter number front) (after : SameGates mid b)
-    (its_iter : iter ≡ s.at.iter) (below : AreBelow a.book front) where
+    (its_iter : iter ≡ s.at.iter) (below : AreRoomsBelow a.book front) where
   -- the gates before the releases and after them
   pub gates_then : ℕ → GateView
   gates_then room = if is_among front room then h.was room else base_gates a room
@@ -151,12 +151,12 @@ module _ {T S : Type 0} (op : Operator) (a mid b : RoomsView (Value T S)) (s t :
       beyond = λ room l. q_kept room (beyond_front room l);
     }
 
-other_by : (front now : List ℕ) (r : ℕ) → AreRising (front ++ now) → is_among now r ≡ true → (b : Bool) → is_among front r ≡ b → is_among front r ≡ false
+other_by : (front now : List ℕ) (r : ℕ) → AreRoomsRising (front ++ now) → is_among now r ≡ true → (b : Bool) → is_among front r ≡ b → is_among front r ≡ false
 other_by front now r h m true e = absurd (no_bool (is_among now r) m (apart front now r h e))
 other_by front now r h m false e = e
 
 -- a room of the rest isn't among the first ones
-other_part : (front now : List ℕ) (r : ℕ) → AreRising (front ++ now) → is_among now r ≡ true → is_among front r ≡ false
+other_part : (front now : List ℕ) (r : ℕ) → AreRoomsRising (front ++ now) → is_among now r ≡ true → is_among front r ≡ false
 other_part front now r h m = other_by front now r h m (is_among front r) refl
 
 -- ---- the turns
@@ -181,8 +181,8 @@ module _ {T S St : Type 0} (op : Operator) (a b : RoomsView (Value T S)) (rest :
   pub book_ordered : IsFit op a making → book.ordered ≡ a.ordered
   book_ordered fit = fit.doing.2
 
-  pub below_of : IsFit op a making → AreBelow a.book left
-  below_of fit = subst (λ n. AreBelow n left) (sym fit.book) (commit_of fit).below
+  pub below_of : IsFit op a making → AreRoomsBelow a.book left
+  below_of fit = subst (λ n. AreRoomsBelow n left) (sym fit.book) (commit_of fit).below
 
   -- what the steps of the session are in a room
   part_left : (room : ℕ) → part room steps ≡ (if is_among left room then part room c.log else [])
@@ -229,7 +229,7 @@ module _ {T S St : Type 0} (op : Operator) (a b : RoomsView (Value T S)) (rest :
       let s : SessionView = making in
       let t : SessionView = closed_view in
       let after : SameGates mid b = subst (SameGates mid) (sym leaves) (book_gates mid book (book_ordered fit ∙ sym h.ordered)) in
-      let below : AreBelow a.book left = below_of fit in
+      let below : AreRoomsBelow a.book left = below_of fit in
       let gates : ℕ → GateView = gates_then op a mid b s t left c.iter number fit h after refl below in
       let p : Place = record { gates = gates; book = book; session = s.at } in
       let q : Place = record { gates = released gates left c.worker c.iter number; book = book; session = t.at } in
@@ -245,7 +245,7 @@ module _ {T S St : Type 0} (op : Operator) (a b : RoomsView (Value T S)) (rest :
 
   -- ---- a room was held
 
-  cut_fits : (now front : List ℕ) (mid : RoomsView (Value T S)) (room : ℕ) → IsFit op a making → IsCommitOf op making made → left ≡ front ++ now → AreRising (front ++ now) → ((r : ℕ) → is_among now r ≡ true → is_among left r ≡ true)
+  cut_fits : (now front : List ℕ) (mid : RoomsView (Value T S)) (room : ℕ) → IsFit op a making → IsCommitOf op making made → left ≡ front ++ now → AreRoomsRising (front ++ now) → ((r : ℕ) → is_among now r ≡ true → is_among left r ≡ true)
       → AreReleased a mid c.worker c.iter number front → IsLost mid b room → IsFitIn op b (view_in rest c (code.Committing book number now)) (Some (record { book = book; number = number; left = now }))
   cut_fits now front mid room fit k parts rising fewer h loss =
       let held : b.held ≡ a.held = ap (λ (v : RoomsView (Value T S)). v.held) loss.same ∙ h.held in
@@ -258,7 +258,7 @@ module _ {T S St : Type 0} (op : Operator) (a b : RoomsView (Value T S)) (rest :
           last = k.last;
           number = k.number;
           rising = rising_end front now rising;
-          below = below_end op.rooms front now (subst (AreBelow op.rooms) parts k.below);
+          below = below_end op.rooms front now (subst (AreRoomsBelow op.rooms) parts k.below);
           log = sym (steps_in_twice now left fewer c.log) ∙ ap (λ (xs : List Step). steps_in now xs) k.log ∙ steps_in_twice now left fewer k.steps;
         },
         book_ordered fit ∙ sym (ap (λ (v : RoomsView (Value T S)). v.ordered) loss.same ∙ h.ordered),
@@ -270,15 +270,15 @@ module _ {T S St : Type 0} (op : Operator) (a b : RoomsView (Value T S)) (rest :
   cut_others mid room other loss same n true e = absurd (n (ap Some (numbers_equal room other e)))
   cut_others mid room other loss same n false e = ap (λ (v : RoomsView (Value T S)). v.lost other) loss.same ∙ put_other mid.lost room (b.lost room) other e ∙ ap (λ f. f other) same
 
-  pub cut_turn : (now : List ℕ) → IsFit op a making → IsCutShort a b c.worker c.iter number left now → TakesTurn op a b making (view_in rest c (code.Committing book number now)) (Ok events.Busy)
+  pub cut_turn : (now : List ℕ) → IsFit op a making → IsReleaseCutShort a b c.worker c.iter number left now → TakesTurn op a b making (view_in rest c (code.Committing book number now)) (Ok events.Busy)
   cut_turn now fit h =
       let s : SessionView = making in
       let t : SessionView = view_in rest c (code.Committing book number now) in
       let k : IsCommitOf op making made = commit_of fit in
       let parts : left ≡ h.front ++ now = h.rooms_are ∙ ap (λ (xs : List ℕ). h.front ++ xs) (sym h.left_is) in
-      let rising : AreRising (h.front ++ now) = subst AreRising parts k.rising in
-      let below : AreBelow a.book h.front = below_front a.book h.front now (subst (AreBelow a.book) parts (below_of fit)) in
-      let new : is_among h.front h.room ≡ false = not_in_front h.front h.room h.rest (subst AreRising h.rooms_are k.rising) in
+      let rising : AreRoomsRising (h.front ++ now) = subst AreRoomsRising parts k.rising in
+      let below : AreRoomsBelow a.book h.front = below_front a.book h.front now (subst (AreRoomsBelow a.book) parts (below_of fit)) in
+      let new : is_among h.front h.room ≡ false = not_in_front h.front h.room h.rest (subst AreRoomsRising h.rooms_are k.rising) in
       let after : SameGates h.mid b = lost_gates h.mid b h.room h.loss in
       let among : (room : ℕ) → is_among h.front room ≡ false → is_among now room ≡ is_among left room =
       λ room e. sym (ap (λ (xs : List ℕ). is_among xs room) parts ∙ among_both h.front now room ∙ ap (λ (x : Bool). x || is_among now room) e) in
@@ -299,7 +299,7 @@ module _ {T S St : Type 0} (op : Operator) (a b : RoomsView (Value T S)) (rest :
             turned op a b s t p q l (release_stands op a h.mid b s t h.front c.iter number fit h.front_released after refl below book refl (book_ordered fit)) fit refl refl refl (book_ordered fit) (Some h.room)
             (record {
               needed = λ other e. subst (λ r. needs a.book s r ≡ true) (some_number e) needed;
-              risen = λ other e. subst (λ r. HasRisen (a.lost r) (b.lost r)) (some_number e) (subst (λ f. HasRisen (f h.room) (b.lost h.room)) h.front_released.lost h.loss.risen);
+              risen = λ other e. subst (λ r. CountHasRisen (a.lost r) (b.lost r)) (some_number e) (subst (λ f. CountHasRisen (f h.room) (b.lost h.room)) h.front_released.lost h.loss.risen);
               others = λ other m. cut_others h.mid h.room other h.loss h.front_released.lost m (h.room == other) refl;
             })
             (Ok events.Busy) (
@@ -313,6 +313,6 @@ module _ {T S St : Type 0} (op : Operator) (a b : RoomsView (Value T S)) (rest :
               tt,
             );
         is_fit = fits a b s t p q l fit.acts refl op fit
-            (subst (AreWithin op.rooms) (steps_in_twice now left fewer c.log) (steps_within op.rooms now steps fit.within))
+            (subst (AreStepsWithin op.rooms) (steps_in_twice now left fewer c.log) (steps_within op.rooms now steps fit.within))
             (cut_fits now h.front h.mid h.room fit k parts rising fewer h.front_released h.loss);
       }

@@ -11,7 +11,7 @@ use Rattle.speculation.specs.ScheduledRuns.{is_empty, Run, then_turned, schedule
 use Rattle.speculation.proofs.Putting.{no_bool}
 use Rattle.iterate.specs.declared.events.Stop.{Stop}
 use Rattle.iterate.specs.declared.events.Stop.TheVariants as stops
-use Rattle.iterate.specs.PlayedTurns.{IsTracedTurn, IsStopped}
+use Rattle.iterate.specs.PlayedTurns.{IsTracedTurn, IsStoppedTurn}
 use Rattle.iterate.specs.Plays.{stop_of}
 use Rattle.iterate.specs.Turns.{IsCause}
 
@@ -52,7 +52,7 @@ module _ (op : Operator) where
 
   -- a turn that stops
   pub leads_to_stop : (first now : Run) (schedule rest : List ℕ) (worker : ℕ) (l : Limit) (stop : Stop) → LeadsOn op first schedule now (worker ∷ rest) → is_empty now.machine.book.ready ≡ false
-      → (stop ≡ stops.NoMemory) ⊎ IsStopped op now.machine worker stop → stop ≡ stop_of l → limit_of_scheduled op first schedule ≡ Some l
+      → (stop ≡ stops.NoMemory) ⊎ IsStoppedTurn op now.machine worker stop → stop ≡ stop_of l → limit_of_scheduled op first schedule ≡ Some l
   leads_to_stop first now schedule rest worker l stop h e (inl none) is = absurd (not_for_memory l (sym is ∙ none))
   leads_to_stop first now schedule rest worker l stop h e (inr s) is =
       let passed : limit_in op now.machine worker ≡ Some l = stop_cause l (limit_in op now.machine worker) (subst (λ (x : Stop). IsCause x (limit_in op now.machine worker)) is s.cause) in

@@ -19,7 +19,7 @@ use Rattle.speculation.specs.Premises.{IsNextCall, AsksCall}
 use Rattle.speculation.specs.Sessions.{Session, Phase, Idle, Running, Finished, Undoing, ahead}
 use Rattle.speculation.proofs.Putting.{no_bool, same_number}
 use Rattle.rooms.specs.RoomsViews.{RoomsView, is_held}
-use Rattle.rooms.specs.HandedOut.{HasRisen}
+use Rattle.rooms.specs.HandedOut.{CountHasRisen}
 use Rattle.rooms.specs.Values.{tells}
 use Rattle.rooms.specs.Visits.{AreTold}
 use Rattle.rooms.specs.declared.values.Value.{Value}
@@ -119,7 +119,7 @@ module _ {T S : Type 0} where
   -- ---- the turn
 
   module _ (op : Operator) (a b : RoomsView (Value T S)) (s t : SessionView) (worker : ℕ) (told_a : AreTold tells a) (told_b : AreTold tells b) (may : MayTurn op a worker s)
-      (never : (room : ℕ) → HasRisen (a.lost room) (b.lost room) → ⊥) where
+      (never : (room : ℕ) → CountHasRisen (a.lost room) (b.lost room) → ⊥) where
     none_lost : (lost : Option ℕ) → IsLostIn a b s lost → lost ≡ None
     none_lost None h = refl
     none_lost (Some room) h = absurd (never room (h.risen room refl))

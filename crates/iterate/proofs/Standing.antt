@@ -9,10 +9,10 @@ use Rattle.gate_core.specs.Views.{GateView}
 use Rattle.commit_book.specs.BookViews.{BookView, new_book}
 use Rattle.speculation.specs.Machines.{Place}
 use Rattle.rooms.specs.RoomsViews.{RoomsView, entries_for, told_with}
-use Rattle.rooms.specs.HandedOut.{IsTold}
+use Rattle.rooms.specs.HandedOut.{IsValueTold}
 use Rattle.rooms.specs.declared.values.Value.{Value}
 use Rattle.rooms.specs.declared.values.Value.TheVariants.{Object, Book}
-use Rattle.iterate.specs.Places.{IsLogOf, IsFit, IsFitIn, AreWithin, no_gate, gate_of, book_of, IfTold, IsBookIn, StandsOn}
+use Rattle.iterate.specs.Places.{IsLogOf, IsFit, IsFitIn, AreStepsWithin, no_gate, gate_of, book_of, IfTold, IsBookIn, StandsOn}
 use Rattle.iterate.specs.SessionViews.{OpenCommit, SessionView}
 use Rattle.iterate.specs.Turns.{OthersStay, AreSameRooms}
 use Rattle.iterate.proofs.Logs.{log_hidden, others_hidden}
@@ -40,11 +40,11 @@ module _ {T S : Type 0} where
   telling_with None value = refl
   telling_with (Some old) value = refl
 
-  pub told_gate : (o : Option (Value T S)) (g : GateView) → IsTold o (Object g) → IfTold o (λ value. g ≡ gate_of value)
+  pub told_gate : (o : Option (Value T S)) (g : GateView) → IsValueTold o (Object g) → IfTold o (λ value. g ≡ gate_of value)
   told_gate None g h = tt
   told_gate (Some value) g h = ap gate_of h
 
-  pub told_book : (o : Option (Value T S)) (b : BookView) → IsTold o (Book b) → IfTold o (λ value. b ≡ book_of value)
+  pub told_book : (o : Option (Value T S)) (b : BookView) → IsValueTold o (Book b) → IfTold o (λ value. b ≡ book_of value)
   told_book None b h = tt
   told_book (Some value) b h = ap book_of h
 
@@ -123,7 +123,7 @@ module _ {T S : Type 0} where
           (if_told (b.told a.book) (λ value. (book_of value).ordered ≡ a.ordered) (λ value. (book_of value).ordered ≡ b.ordered) (λ value e. e ∙ sym h.ordered) (h.ordered_told l))
 
       -- the session is fit for its next turn
-      pub fits : (op : Operator) → IsFit op a s → AreWithin op.rooms t.at.outcome.steps → IsFitIn op b t t.opened → IsFit op b t
+      pub fits : (op : Operator) → IsFit op a s → AreStepsWithin op.rooms t.at.outcome.steps → IsFitIn op b t t.opened → IsFit op b t
       fits op fit within doing = record {
         acts = ap (λ f. f t.worker) h.acts_for ∙ mine_after;
         book = h.book ∙ fit.book;

@@ -8,7 +8,7 @@ use Rattle.speculation.specs.Limits.{limit_at}
 use Rattle.speculation.specs.Machines.{Place, Turned, turn_at}
 use Rattle.speculation.proofs.Putting.{numbers_equal}
 use Rattle.rooms.specs.RoomsViews.{RoomsView}
-use Rattle.rooms.specs.HandedOut.{IsLost, HasRisen}
+use Rattle.rooms.specs.HandedOut.{IsLost, CountHasRisen}
 use Rattle.rooms.specs.declared.values.Value.{Value}
 use Rattle.rooms.proofs.CallerLemmas.{put_same, put_other}
 use Rattle.iterate.specs.declared.events.Event.{Event as CodeEvent}
@@ -47,7 +47,7 @@ module _ {T S : Type 0} where
   pub one_loss : (a b : RoomsView (Value T S)) (s : SessionView) (room : ℕ) → IsLost a b room → needs a.book s room ≡ true → IsLostIn a b s (Some room)
   one_loss a b s room h n = record {
     needed = λ other e. subst (λ r. needs a.book s r ≡ true) (some_number e) n;
-    risen = λ other e. subst (λ r. HasRisen (a.lost r) (b.lost r)) (some_number e) h.risen;
+    risen = λ other e. subst (λ r. CountHasRisen (a.lost r) (b.lost r)) (some_number e) h.risen;
     others = λ other m. loss_others a b room other h m (room == other) refl;
   }
 

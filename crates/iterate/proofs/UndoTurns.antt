@@ -24,7 +24,7 @@ use Rattle.iterate.specs.declared.events.Event.TheVariants as events
 use Rattle.iterate.specs.declared.session.Phase.{Phase as CodePhase}
 use Rattle.iterate.specs.declared.session.Phase.TheVariants as code
 use Rattle.iterate.specs.Needs.{needs, is_last, to_put_back}
-use Rattle.iterate.specs.Places.{IsLogIn, IsLogOf, IsFit, AreWithin, IsBookIn, StandsOn}
+use Rattle.iterate.specs.Places.{IsLogIn, IsLogOf, IsFit, AreStepsWithin, IsBookIn, StandsOn}
 use Rattle.iterate.specs.SessionViews.{Rests, Core, SessionView, view_in}
 use Rattle.iterate.specs.Turns.{TakesTurn}
 use Rattle.iterate.specs.Visits.{BookWasVisited, WasVisited}
@@ -126,12 +126,12 @@ module _ {T S St : Type 0} (op : Operator) (a b : RoomsView (Value T S)) (rest :
       let l : IsLogIn other c.worker c.iter c.item (steps_before c.log ++ last ∷ []) es = subst (λ steps. IsLogIn other c.worker c.iter c.item steps es) (last_is_last c.log last e) h in
       sound_log other c.worker c.iter c.item (steps_before c.log) es (log_back_elsewhere c.worker c.iter c.item last other (steps_before c.log) es n (log_sound other c.worker c.iter c.item (steps_before c.log ++ last ∷ []) es l))
 
-  within_before : (rooms : ℕ) (steps : List Step) → AreWithin rooms steps → AreWithin rooms (steps_before steps)
+  within_before : (rooms : ℕ) (steps : List Step) → AreStepsWithin rooms steps → AreStepsWithin rooms (steps_before steps)
   within_before rooms [] h = tt
   within_before rooms (x ∷ []) h = tt
   within_before rooms (x ∷ y ∷ ys) h = (h.0, within_before rooms (y ∷ ys) h.1)
 
-  pub within_last : (rooms : ℕ) (steps : List Step) (last : Step) → last_step steps ≡ Some last → AreWithin rooms steps → last.room < rooms
+  pub within_last : (rooms : ℕ) (steps : List Step) (last : Step) → last_step steps ≡ Some last → AreStepsWithin rooms steps → last.room < rooms
   within_last rooms [] last e h = absurd (cc)
   within_last rooms (x ∷ []) last e h = let same : x ≡ last = some_same e in subst (λ (y : Step). y.room < rooms) same h.0
   within_last rooms (x ∷ y ∷ ys) last e h = within_last rooms (y ∷ ys) last e h.1
@@ -141,8 +141,8 @@ module _ {T S St : Type 0} (op : Operator) (a b : RoomsView (Value T S)) (rest :
       let h : IsFit op a undoing_view = subst (λ x. IsFit op a (view_in rest c x)) e fit in
       subst (λ n. last.room < n) (sym h.book) (within_last op.rooms c.log last l h.within)
 
-  pub is_free : (f : CodePhase St) → f ≡ code.Undoing → IsFit op a (view_in rest c f) → (room : ℕ) → is_held a room ≡ false
-  is_free f e fit = free_of op a undoing_view (subst (λ x. IsFit op a (view_in rest c x)) e fit) refl
+  pub nothing_held : (f : CodePhase St) → f ≡ code.Undoing → IsFit op a (view_in rest c f) → (room : ℕ) → is_held a room ≡ false
+  nothing_held f e fit = free_of op a undoing_view (subst (λ x. IsFit op a (view_in rest c x)) e fit) refl
 
   pub undo_one : IsFit op a undoing_view → (last : Step) → last_step c.log ≡ Some last → has_no_step (steps_before c.log) ≡ false → (was : GateView) → WasVisited a b last.room was (undo_last was c.worker c.iter)
       → TakesTurn op a b undoing_view less_view (Ok (events.Undo last.room last.call))

@@ -10,7 +10,7 @@ use Rattle.speculation.specs.Premises.{ScheduledAsk, AloneAsk}
 use Rattle.speculation.specs.ScheduledRuns.{is_empty, Run, begun, scheduled, drain, alone, drained, played}
 use Rattle.iterate.specs.declared.events.Stop.{Stop}
 use Rattle.iterate.specs.declared.events.Stop.TheVariants as stops
-use Rattle.iterate.specs.PlayedTurns.{IsLoneRun, IsPlayedRun}
+use Rattle.iterate.specs.PlayedTurns.{IsEmptiedAlone, IsPlayedRun}
 use Rattle.iterate.specs.Plays.{stop_of, PassesFirst}
 use Rattle.iterate.proofs.LoneRuns.{limit_more, none_after}
 
@@ -32,7 +32,7 @@ module _ (op : Operator) (m : Machine) (workers : ℕ) (schedule : List ℕ) whe
 
   -- the schedule, the drain, and worker 0 alone
   pub whole : (r s last : Run) → r ≡ scheduled op (begun m) schedule → limit_of_scheduled op (begun m) schedule ≡ None → ScheduledAsk op (begun m) schedule → s ≡ drain r workers
-      → IsLoneRun op s.machine last.machine → last.trace ≡ s.trace → IsPlayedRun op m workers schedule last
+      → IsEmptiedAlone op s.machine last.machine → last.trace ≡ s.trace → IsPlayedRun op m workers schedule last
   whole r s last h n a k lone same =
       let d : s ≡ drained op m workers schedule = drained_is r s h k in
       let run : last ≡ record (drained op m workers schedule) { machine = alone op (drained op m workers schedule).machine lone.turns } =

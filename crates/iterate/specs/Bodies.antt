@@ -34,19 +34,19 @@ IsAtWork (code.Committing book number left) = ⊥
 IsAtWork code.Undoing = ⊥
 
 -- it has asked this call, or is finished
-abbrev pub IsAsking : {St : Type 0} → Option (ℕ × CallOf) → CodePhase St → Type 0
-IsAsking asked code.Idle = ⊥
-IsAsking asked (code.Running st last) = ⊥
-IsAsking asked (code.Asking st room call) = asked ≡ Some (room, call)
-IsAsking asked code.Finished = asked ≡ None
-IsAsking asked (code.Committing book number left) = ⊥
-IsAsking asked code.Undoing = ⊥
+abbrev pub HasAsked : {St : Type 0} → Option (ℕ × CallOf) → CodePhase St → Type 0
+HasAsked asked code.Idle = ⊥
+HasAsked asked (code.Running st last) = ⊥
+HasAsked asked (code.Asking st room call) = asked ≡ Some (room, call)
+HasAsked asked code.Finished = asked ≡ None
+HasAsked asked (code.Committing book number left) = ⊥
+HasAsked asked code.Undoing = ⊥
 
 -- the body has gone on to a call or to its end, and nothing else changed
 pub record HasGoneOn {St : Type 0} (rest : Rests St) (old new : Core) (before after : CodePhase St) (asked : Option (ℕ × CallOf)) : Type 0 where
   pub at : at_in rest new after ≡ gone_on (at_in rest old before)
   pub core : new ≡ record old { pushes = new.pushes }
-  pub phase : IsAsking asked after
+  pub phase : HasAsked asked after
 
 -- the body of a session that asked a call goes on from this reply
 abbrev pub IsNoted : {St : Type 0} → Reply → CodePhase St → CodePhase St → Type 0

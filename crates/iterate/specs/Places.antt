@@ -16,7 +16,7 @@ use Rattle.speculation.specs.Machines.{Place}
 use Rattle.rooms.specs.RoomsViews.{RoomsView, is_held, commits_entered}
 use Rattle.rooms.specs.declared.values.Value.{Value}
 use Rattle.rooms.specs.declared.values.Value.TheVariants.{Object, Book}
-use Rattle.iterate.specs.RoomLists.{is_among, steps_in, AreRising, AreBelow}
+use Rattle.iterate.specs.RoomLists.{is_among, steps_in, AreRoomsRising, AreRoomsBelow}
 use Rattle.iterate.specs.SessionViews.{OpenCommit, SessionView}
 
 -- ---- values of rooms
@@ -49,9 +49,9 @@ abbrev pub IsLogOf : ℕ → SessionView → List Entry → Type 0
 IsLogOf room session live = IsLogIn room session.worker session.at.iter session.at.item session.at.outcome.steps live
 
 -- each step is in one of so many rooms
-abbrev pub AreWithin : ℕ → List Step → Type 0
-AreWithin rooms [] = ⊤
-AreWithin rooms (step ∷ steps) = (step.room < rooms) × AreWithin rooms steps
+abbrev pub AreStepsWithin : ℕ → List Step → Type 0
+AreStepsWithin rooms [] = ⊤
+AreStepsWithin rooms (step ∷ steps) = (step.room < rooms) × AreStepsWithin rooms steps
 
 -- the room of a call that was asked is one of so many
 abbrev pub IsAskedWithin : ℕ → Option ℕ → Type 0
@@ -73,8 +73,8 @@ pub record IsCommitOf (op : Operator) (session : SessionView) (made : OpenCommit
   pub last : made.book.commits ≡ earlier ++ record { worker = session.worker; iter = session.at.iter; item = session.at.item; outcome = record { steps = steps; pushes = session.at.outcome.pushes; withdrawn = [] } } ∷ []
   pub number : made.number ≡ length earlier
   -- the rooms that are left stand by rising number
-  pub rising : AreRising made.left
-  pub below : AreBelow op.rooms made.left
+  pub rising : AreRoomsRising made.left
+  pub below : AreRoomsBelow op.rooms made.left
   -- the log is the part of these steps in them
   pub log : session.at.outcome.steps ≡ steps_in made.left steps
 
@@ -95,7 +95,7 @@ pub record IsFit {T S : Type 0} (op : Operator) (rooms : RoomsView (Value T S)) 
   -- the live entries of the worker, as the rooms tell them, and in the values that they tell
   pub live : (room : ℕ) → room < rooms.book → IsLogOf room session (rooms.live room)
   pub live_told : (room : ℕ) → room < rooms.book → IfTold (rooms.told room) (λ value. IsLogOf room session (gate_of value).live)
-  pub within : AreWithin op.rooms session.at.outcome.steps
+  pub within : AreStepsWithin op.rooms session.at.outcome.steps
   pub doing : IsFitIn op rooms session session.opened
 
 -- ---- places

@@ -84,13 +84,13 @@ pub record IsTurn (op : Operator) (before after : Machine) (worker : ℕ) (event
   pub asks : AsksCall (before.sessions worker).phase
 
 -- the turn stopped: for a limit only where its commit would pass that, and never while it undoes
-pub record IsStopped (op : Operator) (before : Machine) (worker : ℕ) (stop : Stop) : Type 0 where
+pub record IsStoppedTurn (op : Operator) (before : Machine) (worker : ℕ) (stop : Stop) : Type 0 where
   pub cause : IsCause stop (limit_in op before worker)
   pub may : may_stop_at (before.sessions worker).phase ≡ true
 
 abbrev pub TurnAnswers : Operator → (before after : Machine) → (worker : ℕ) → Result CodeEvent Stop → Type 0
 TurnAnswers op before after worker (Ok event) = IsTurn op before after worker (event_of event) × TellsRight (place_of before worker) worker event
-TurnAnswers op before after worker (Err stop) = IsStopped op before worker stop
+TurnAnswers op before after worker (Err stop) = IsStoppedTurn op before worker stop
 
 -- the turn, which the trace has then
 pub record IsTracedTurn (op : Operator) (before after : Run) (worker : ℕ) : Type 0 where
@@ -101,7 +101,7 @@ pub record IsTracedTurn (op : Operator) (before after : Run) (worker : ℕ) : Ty
 -- ---- runs
 
 -- worker 0 alone has emptied the ready set, by calls with numbers of 64 bits and commits that passed no limit
-pub record IsLoneRun (op : Operator) (before after : Machine) : Type 0 where
+pub record IsEmptiedAlone (op : Operator) (before after : Machine) : Type 0 where
   pub turns : ℕ
   pub machine_is : after ≡ alone op before turns
   pub ends : is_empty after.book.ready ≡ true

@@ -37,11 +37,11 @@ abbrev pub AreAbove : ℕ → List ℕ → Type 0
 AreAbove x [] = ⊤
 AreAbove x (y ∷ ys) = (x < y) × AreAbove x ys
 
-abbrev pub AreRising : List ℕ → Type 0
-AreRising [] = ⊤
-AreRising (x ∷ xs) = AreAbove x xs × AreRising xs
+abbrev pub AreRoomsRising : List ℕ → Type 0
+AreRoomsRising [] = ⊤
+AreRoomsRising (x ∷ xs) = AreAbove x xs × AreRoomsRising xs
 
 -- each is below this one
-abbrev pub AreBelow : ℕ → List ℕ → Type 0
-AreBelow n [] = ⊤
-AreBelow n (x ∷ xs) = (x < n) × AreBelow n xs
+abbrev pub AreRoomsBelow : ℕ → List ℕ → Type 0
+AreRoomsBelow n [] = ⊤
+AreRoomsBelow n (x ∷ xs) = (x < n) × AreRoomsBelow n xs

@@ -12,7 +12,7 @@ use Rattle.speculation.specs.Limits.{Limit, limit_at}
 use Rattle.speculation.specs.Limits as limit
 use Rattle.speculation.specs.Machines.{Place, entry_of, turn_at}
 use Rattle.speculation.specs.Sessions.{Phase, Idle, Running, Finished, Undoing}
-use Rattle.rooms.specs.HandedOut.{HasRisen}
+use Rattle.rooms.specs.HandedOut.{CountHasRisen}
 use Rattle.rooms.specs.RoomsViews.{RoomsView}
 use Rattle.rooms.specs.declared.values.Value.{Value}
 use Rattle.iterate.specs.declared.events.Event.{Event as CodeEvent}
@@ -57,7 +57,7 @@ TellsRight p worker _ = ⊤
 -- none is the machine's, which is never busy.
 pub record IsLostIn {V : Type 0} (before after : RoomsView V) (session : SessionView) (lost : Option ℕ) : Type 0 where
   pub needed : (room : ℕ) → lost ≡ Some room → needs before.book session room ≡ true
-  pub risen : (room : ℕ) → lost ≡ Some room → HasRisen (before.lost room) (after.lost room)
+  pub risen : (room : ℕ) → lost ≡ Some room → CountHasRisen (before.lost room) (after.lost room)
   pub others : (room : ℕ) → lost ≢ Some room → after.lost room ≡ before.lost room
 
 -- ---- limits

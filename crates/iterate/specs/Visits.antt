@@ -11,7 +11,7 @@ use Rattle.rooms.specs.Values.{tells}
 use Rattle.rooms.specs.declared.values.Value.{Value}
 use Rattle.rooms.specs.declared.values.Value.TheVariants.{Object, Book}
 use Rattle.iterate.specs.Places.{gate_of, IfTold}
-use Rattle.iterate.specs.RoomLists.{is_among, AreRising, AreBelow}
+use Rattle.iterate.specs.RoomLists.{is_among, AreRoomsRising, AreRoomsBelow}
 use Rattle.iterate.specs.SessionViews.{Core}
 use Rattle.iterate.specs.declared.session.Phase.{Phase as CodePhase}
 use Rattle.iterate.specs.declared.session.Phase.TheVariants as code
@@ -62,15 +62,15 @@ pub record AreReleased {T S : Type 0} (before after : RoomsView (Value T S)) (wo
 
 -- what is asked of rooms in which an iteration is to be released
 pub record MayRelease {V : Type 0} (view : RoomsView V) (number : ℕ) (left : List ℕ) : Type 0 where
-  pub rising : AreRising left
-  pub below : AreBelow view.book left
+  pub rising : AreRoomsRising left
+  pub below : AreRoomsBelow view.book left
   pub held : (room : ℕ) → is_held view room ≡ (room == view.book)
   pub count : commits_entered view ≡ number
   pub unreleased : (room : ℕ) → is_among left room ≡ true → view.released room ≡ false
   pub small : number < 2 ^ 64 - 1
 
 -- it was released in rooms before this one, which was held
-pub record IsCutShort {T S : Type 0} (before after : RoomsView (Value T S)) (worker iter number : ℕ) (rooms left : List ℕ) : Type 0 where
+pub record IsReleaseCutShort {T S : Type 0} (before after : RoomsView (Value T S)) (worker iter number : ℕ) (rooms left : List ℕ) : Type 0 where
   pub front : List ℕ
   pub room : ℕ
   pub rest : List ℕ

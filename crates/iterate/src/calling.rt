@@ -1,7 +1,7 @@
 ghost use Rattle.std.specs.Prelude.{◌≡◌, ◌∷◌, ◌++◌, ◌<◌, [], false, Some, vec_len, vec_capacity};
 ghost use Rattle.gx_base.specs.declared.acts.Step.{Step};
 ghost use Rattle.commit_book.specs.SerialRuns.{operator_of};
-ghost use Rattle.iterate.specs.Bodies.{IsAtWork, IsAsking, IsNoted};
+ghost use Rattle.iterate.specs.Bodies.{IsAtWork, HasAsked, IsNoted};
 ghost use Rattle.iterate.specs.Places.{IsFit};
 ghost use Rattle.iterate.specs.SessionViews.{core_of, view_of};
 ghost use Rattle.iterate.specs.Turns.{TakesTurn};
@@ -46,7 +46,7 @@ impl<O: Operator> Session<O> {
     ) -> Result<Event, Stop>
         requires unordered { O.is_ordered _op.now ≡ false }
         requires fit { IsFit (operator_of O.Operator _op.now) (R.view rooms.old) (view_of (O.rest _op.now) self.old) }
-        requires asking { IsAsking (Some (room, call)) self.old.phase }
+        requires asking { HasAsked (Some (room, call)) self.old.phase }
         ensures turn { TakesTurn (operator_of O.Operator _op.now) (R.view rooms.old) (R.view rooms.new) (view_of (O.rest _op.now) self.old) (view_of (O.rest _op.now) self.new) result }
         ensures loan { R.loan rooms.new ≡ R.loan rooms.old }
     {
@@ -78,7 +78,7 @@ impl<O: Operator> Session<O> {
     // A call that was done goes to the log, and the body goes on from its reply.
     fn note(&mut self, room: Room, call: Call, reply: Reply)
         requires room { vec_len self.old.log < vec_capacity self.old.log }
-        requires asking { IsAsking (Some (room, call)) self.old.phase }
+        requires asking { HasAsked (Some (room, call)) self.old.phase }
         ensures core { core_of self.new ≡ record (core_of self.old) { log = self.old.log.items ++ record { room = room; call = call; reply = reply } ∷ [] } }
         ensures phase { IsNoted reply self.old.phase self.new.phase }
     {

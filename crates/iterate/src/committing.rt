@@ -8,7 +8,7 @@ ghost use Rattle.iterate.specs.Places.{IsFit};
 ghost use Rattle.iterate.specs.RoomLists.{rooms_of};
 ghost use Rattle.iterate.specs.SessionViews.{core_of, view_in, view_of};
 ghost use Rattle.iterate.specs.Turns.{TakesTurn};
-ghost use Rattle.iterate.specs.Visits.{AreReleased, MayRelease, IsCutShort, MayAnswer};
+ghost use Rattle.iterate.specs.Visits.{AreReleased, MayRelease, IsReleaseCutShort, MayAnswer};
 ghost use Rattle.iterate.specs.declared.session.Phase.TheVariants as phases;
 
 use crate::entering::{enter_book, enter_gate, leave_book, leave_gate};
@@ -32,7 +32,7 @@ fn release_all<R: Rooms<Value<T, S>>, T: SeqType, S: Screen<T>>(
 ) -> bool
     requires { MayRelease (R.view rooms.old) number left.old }
     ensures done { result ≡ true → AreReleased (R.view rooms.old) (R.view rooms.new) worker iter number left.old }
-    ensures cut { result ≡ false → IsCutShort (R.view rooms.old) (R.view rooms.new) worker iter number left.old left.new }
+    ensures cut { result ≡ false → IsReleaseCutShort (R.view rooms.old) (R.view rooms.new) worker iter number left.old left.new }
     ensures loan { R.loan rooms.new ≡ R.loan rooms.old }
 {
     'passing: loop {

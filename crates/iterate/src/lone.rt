@@ -3,7 +3,7 @@ ghost use Rattle.commit_book.specs.SerialRuns.{operator_of};
 ghost use Rattle.speculation.specs.Limits.{Limit, limit_of_alone};
 ghost use Rattle.rooms.specs.Values.{tells};
 ghost use Rattle.rooms.specs.Visits.{view_of as rooms_view};
-ghost use Rattle.iterate.specs.PlayedTurns.{machine_of, sessions_of, IsLoneRun, MayAllTurn, TurnAnswers};
+ghost use Rattle.iterate.specs.PlayedTurns.{machine_of, sessions_of, IsEmptiedAlone, MayAllTurn, TurnAnswers};
 ghost use Rattle.iterate.specs.Plays.{stop_of};
 
 use crate::events::{Event, Stop};
@@ -39,7 +39,7 @@ pub fn run_alone<O: Operator, T: SeqType, S: Screen<T>>(
     requires unordered { O.is_ordered op.now ≡ false }
     requires some { 0 < length sessions.old }
     requires fit { MayAllTurn (operator_of O.Operator op.now) (rooms_view tells rooms.old) (O.rest op.now) sessions.old }
-    ensures run { OnOk result (IsLoneRun (operator_of O.Operator op.now) (machine_of (rooms_view tells rooms.old) (sessions_of (O.rest op.now) sessions.old)) (machine_of (rooms_view tells rooms.new) (sessions_of (O.rest op.now) sessions.new))) }
+    ensures run { OnOk result (IsEmptiedAlone (operator_of O.Operator op.now) (machine_of (rooms_view tells rooms.old) (sessions_of (O.rest op.now) sessions.old)) (machine_of (rooms_view tells rooms.new) (sessions_of (O.rest op.now) sessions.new))) }
     ensures limited { (limit : Limit) → result ≡ Err (stop_of limit) → (turns : ℕ) × (limit_of_alone (operator_of O.Operator op.now) (machine_of (rooms_view tells rooms.old) (sessions_of (O.rest op.now) sessions.old)) turns ≡ Some limit) }
     ensures fit { MayAllTurn (operator_of O.Operator op.now) (rooms_view tells rooms.new) (O.rest op.now) sessions.new }
 {

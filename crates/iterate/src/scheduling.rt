@@ -5,7 +5,7 @@ ghost use Rattle.speculation.specs.Premises.{ScheduledAsk};
 ghost use Rattle.speculation.specs.ScheduledRuns.{AllBelow, scheduled};
 ghost use Rattle.rooms.specs.Values.{tells};
 ghost use Rattle.rooms.specs.Visits.{view_of as rooms_view};
-ghost use Rattle.iterate.specs.PlayedTurns.{machine_of, sessions_of, run_of, MayAllTurn, IsTracedTurn, IsToldTurn, IsStopped};
+ghost use Rattle.iterate.specs.PlayedTurns.{machine_of, sessions_of, run_of, MayAllTurn, IsTracedTurn, IsToldTurn, IsStoppedTurn};
 ghost use Rattle.iterate.specs.Plays.{ConflictsTellRight, stop_of};
 ghost use Rattle.iterate.specs.declared.events.Stop.TheVariants as stops;
 
@@ -30,7 +30,7 @@ fn traced_turn<O: Operator, T: SeqType, S: Screen<T>>(
     requires fit { MayAllTurn (operator_of O.Operator op.now) (rooms_view tells rooms.old) (O.rest op.now) sessions.old }
     ensures turned { OnOk result (IsTracedTurn (operator_of O.Operator op.now) (run_of (rooms_view tells rooms.old) (sessions_of (O.rest op.now) sessions.old) trace.old.items) (run_of (rooms_view tells rooms.new) (sessions_of (O.rest op.now) sessions.new) trace.new.items) worker) }
     ensures told { OnOk result (IsToldTurn (machine_of (rooms_view tells rooms.old) (sessions_of (O.rest op.now) sessions.old)) trace.old.items trace.new.items) }
-    ensures stopped { IfErr result (λ stop. (stop ≡ stops.NoMemory) ⊎ IsStopped (operator_of O.Operator op.now) (machine_of (rooms_view tells rooms.old) (sessions_of (O.rest op.now) sessions.old)) worker stop) }
+    ensures stopped { IfErr result (λ stop. (stop ≡ stops.NoMemory) ⊎ IsStoppedTurn (operator_of O.Operator op.now) (machine_of (rooms_view tells rooms.old) (sessions_of (O.rest op.now) sessions.old)) worker stop) }
     ensures fit { MayAllTurn (operator_of O.Operator op.now) (rooms_view tells rooms.new) (O.rest op.now) sessions.new }
 {
     let event = take_turn(rooms, op, sessions, worker)?;

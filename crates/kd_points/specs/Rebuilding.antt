@@ -32,5 +32,5 @@ pub record IsRebuilt (old new : Tree) : Type 0 where
   pub none_grown : new.grown ≡ 0
 
 -- the tree has fewer nodes than are rebuilt, or at most half of its nodes are dead, and at most half were put in one by one
-abbrev pub IsLean : Tree → Type 0
-IsLean tree = LEAST_REBUILT ≤ slab_len tree.nodes → (2 * dead_nodes tree ≤ slab_len tree.nodes) × (2 * tree.grown ≤ slab_len tree.nodes)
+abbrev pub IsLeanTree : Tree → Type 0
+IsLeanTree tree = LEAST_REBUILT ≤ slab_len tree.nodes → (2 * dead_nodes tree ≤ slab_len tree.nodes) × (2 * tree.grown ≤ slab_len tree.nodes)

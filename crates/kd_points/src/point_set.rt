@@ -67,7 +67,7 @@ impl KdPoints {
     }
 
     /// Whether an add would change anything.
-    fn is_free(&self, call: Call) -> bool
+    fn may_be_added(&self, call: Call) -> bool
         ensures { result ≡ turns (may_add call) None (points_state self.now) call.a }
     {
         match self.tree.at(call.a) {
@@ -94,7 +94,7 @@ impl KdPoints {
         ensures kept { (made : Made) → IsTrue (has_points_room self.old made) → IsTrue (has_points_room self.new made) }
         ensures looked { distances_taken self.new ≡ distances_taken self.old }
     {
-        if !self.is_free(call) {
+        if !self.may_be_added(call) {
             return Ok(yes_or_no(false));
         }
         self.tree.insert(spot_of_call(call), None)?;

@@ -5,7 +5,7 @@ ghost use Rattle.gx_base.specs.States.{with_row, row_at};
 ghost use Rattle.slab.specs.Slab.{get, slab_len, Updates};
 ghost use Rattle.kd_points.specs.Trees.{IsSeat, is_found, IsOwner};
 ghost use Rattle.kd_points.specs.TreeStates.{node_at, key_of, place, tree_state, count_of, IsSound, has_node, NoPoint, IsBlank};
-ghost use Rattle.kd_points.specs.Rebuilding.{IsLean};
+ghost use Rattle.kd_points.specs.Rebuilding.{IsLeanTree};
 
 use crate::nodes::{Node, Seat, child, is_left, is_point_of, is_same};
 use crate::rebuild::LEAST_REBUILT;
@@ -66,7 +66,7 @@ impl Tree {
 
     /// Whether a rebuild would be for little.
     pub fn is_lean(&self) -> bool
-        ensures { IsTrue result ↔ IsLean self.now }
+        ensures { IsTrue result ↔ IsLeanTree self.now }
     {
         let nodes = self.nodes.len();
         let half = nodes / 2;

@@ -8,7 +8,7 @@ use Rattle.lock_compiler.specs.declared.compiling.CompileRefuse.{CompileRefuse}
 use Rattle.lock_compiler.specs.declared.compiling.CompileRefuse.TheVariants.{NotSimple, NoMemory}
 
 -- among the rows with one method first, one that isn't simple, where each earlier one is
-pub record IsFirstSecond (kind : ℕ) (rows : ℕ → Condition) (second : ℕ) : Type 0 where
+pub record IsFirstSecondNotSimple (kind : ℕ) (rows : ℕ → Condition) (second : ℕ) : Type 0 where
   pub method : is_method kind second ≡ true
   pub not_simple : is_simple (rows second) ≡ false
   pub earlier : (n : ℕ) → is_method kind n ≡ true → n < second → is_simple (rows n) ≡ true
@@ -22,6 +22,6 @@ pub record IsFirstNotSimple (kind : ℕ) (rows : Rows) (first second : ℕ) : Ty
   pub earlier_second : (n : ℕ) → is_method kind n ≡ true → n < second → is_simple (rows first n) ≡ true
 
 -- the refusal names the first row that isn't simple, and want of memory says nothing
-abbrev pub RefusalFits : ℕ → Rows → CompileRefuse → Type 0
-RefusalFits kind rows (NotSimple first second) = IsFirstNotSimple kind rows first second
-RefusalFits kind rows NoMemory = Unit {0}
+abbrev pub CompileRefusalFits : ℕ → Rows → CompileRefuse → Type 0
+CompileRefusalFits kind rows (NotSimple first second) = IsFirstNotSimple kind rows first second
+CompileRefusalFits kind rows NoMemory = Unit {0}

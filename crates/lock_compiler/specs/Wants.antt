@@ -19,7 +19,7 @@ wanted_in [] method = []
 wanted_in (wants ∷ others) method = if wants.method == method then wants.wants.items else wanted_in others method
 
 -- there are few enough modes to number them, and few enough wants, and the lists have what calls of each method want
-pub record AreKept (modes : LockModes) (lists : List MethodWants) : Type 0 where
+pub record AreKeptWants (modes : LockModes) (lists : List MethodWants) : Type 0 where
   pub few : length modes < 2 ^ 32
   pub few_wants : (method : ℕ) → length (wants_of modes method) < 2 ^ 32
   pub wants : (method : ℕ) → wanted_in lists method ≡ wants_of modes method

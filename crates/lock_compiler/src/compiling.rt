@@ -5,7 +5,7 @@ ghost use Rattle.gx_base.specs.Methods.{is_method};
 ghost use Rattle.gx_base.specs.TableRows.{row_of};
 ghost use Rattle.cond_lattice.specs.Grades.{is_simple, AreSimple};
 ghost use Rattle.lock_compiler.specs.Compiled.{members_refuse, single_mode, compiled};
-ghost use Rattle.lock_compiler.specs.CompileRefusals.{IsFirstSecond, RefusalFits};
+ghost use Rattle.lock_compiler.specs.CompileRefusals.{IsFirstSecondNotSimple, CompileRefusalFits};
 ghost use Rattle.lock_compiler.specs.Wants.{mode_of, modes_of};
 
 use crate::members::{all_members, members_refuse};
@@ -42,7 +42,7 @@ fn is_simple(cond: &Cond) -> bool
 /// With one method first, the first second method whose row isn't simple.
 fn first_not_simple(kind: Kind, table: &Table, first: u32) -> Option<u32>
     ensures none { IfNone result ((n : ℕ) → is_method (kind_number kind) n ≡ true → is_simple (row_of table.now first n) ≡ true) }
-    ensures some { IfSome result (IsFirstSecond (kind_number kind) (row_of table.now first)) }
+    ensures some { IfSome result (IsFirstSecondNotSimple (kind_number kind) (row_of table.now first)) }
 {
     let mut place = 0;
     'seconds: while let Some(second) = method_at(kind, place) {
@@ -57,7 +57,7 @@ fn first_not_simple(kind: Kind, table: &Table, first: u32) -> Option<u32>
 /// Looks whether each row of a kind's methods is simple.
 fn want_simple(kind: Kind, table: &Table) -> Result<(), CompileRefuse>
     ensures ok { OnOk result (AreSimple (kind_number kind) (row_of table.now)) }
-    ensures refused { IfErr result (RefusalFits (kind_number kind) (row_of table.now)) }
+    ensures refused { IfErr result (CompileRefusalFits (kind_number kind) (row_of table.now)) }
 {
     let mut place = 0;
     'firsts: while let Some(first) = method_at(kind, place) {
@@ -121,7 +121,7 @@ fn singles(
 pub fn compile(alloc: Global, kind: Kind, table: &Table) -> Result<Modes, CompileRefuse>
     ensures ok { OnOk result (AreSimple (kind_number kind) (row_of table.now)) }
     ensures modes { IfOk result (λ modes. modes ≡ compiled (kind_number kind) (row_of table.now)) }
-    ensures refused { IfErr result (RefusalFits (kind_number kind) (row_of table.now)) }
+    ensures refused { IfErr result (CompileRefusalFits (kind_number kind) (row_of table.now)) }
 {
     want_simple(kind, table)?;
     let members = all_members(alloc, kind, table)?;

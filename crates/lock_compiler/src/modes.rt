@@ -38,11 +38,11 @@ impl Model for Modes {
 
     ghost coded = { modes_code };
 
-    ghost use Rattle.lock_compiler.specs.Wants.{modes_of, AreKept};
+    ghost use Rattle.lock_compiler.specs.Wants.{modes_of, AreKeptWants};
 
     ghost view = { λ kept. modes_of kept.modes.items };
 
-    ghost invariant = { λ kept. AreKept (modes_of kept.modes.items) kept.wants.items };
+    ghost invariant = { λ kept. AreKeptWants (modes_of kept.modes.items) kept.wants.items };
 }
 
 /// The value at a place among the arguments and the replies of a call.

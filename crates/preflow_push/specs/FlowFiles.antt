@@ -86,7 +86,7 @@ CanGoOn lines = (more : List (List ℕ)) × (net : Net) × AreFlow (lines ++ mor
 
 -- The first line, from 1, with which the lines up to it are the beginning of no flow file. Where all lines are the
 -- beginning of one and yet none themselves, something is missing, and the line after the last is told.
-pub record IsFirstFault (lines : List (List ℕ)) (k : ℕ) : Type 0 where
+pub record IsFirstBadLine (lines : List (List ℕ)) (k : ℕ) : Type 0 where
   pub from_one : 1 ≤ k
   pub within : k ≤ length lines + 1
   pub before : CanGoOn (take (k - 1) lines)

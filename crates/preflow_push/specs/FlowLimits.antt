@@ -8,7 +8,7 @@ use Rattle.gx_base.specs.declared.inputs.InputFault.{InputFault}
 use Rattle.gx_base.specs.declared.inputs.InputFault.TheVariants.{Line, Large, NoMemory}
 use Rattle.preflow_push.specs.declared.network.Network.{Network}
 use Rattle.preflow_push.specs.Networks.{Net, view}
-use Rattle.preflow_push.specs.FlowFiles.{IsFlowFile, IsFirstFault}
+use Rattle.preflow_push.specs.FlowFiles.{IsFlowFile, IsFirstBadLine}
 
 abbrev pub most_nodes : ℕ
 most_nodes = 100000
@@ -41,7 +41,7 @@ pub record IsTooLarge (bytes : List ℕ) (what : What) : Type 0 where
 -- what a text calls for
 abbrev pub CallsFor : List ℕ → Result Net InputFault → Type 0
 CallsFor bytes (Ok net) = IsReadable bytes net
-CallsFor bytes (Err (Line k)) = IsFirstFault (lines_of bytes) k
+CallsFor bytes (Err (Line k)) = IsFirstBadLine (lines_of bytes) k
 CallsFor bytes (Err (Large what)) = IsTooLarge bytes what
 CallsFor bytes (Err NoMemory) = ⊥
 

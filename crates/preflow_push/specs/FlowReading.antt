@@ -30,14 +30,14 @@ abbrev pub is_node_number : ℕ → ℕ → Bool
 is_node_number nodes id = nat_le 1 id && nat_le id nodes
 
 -- the other terminal isn't this node
-abbrev pub is_free : ℕ → Option ℕ → Bool
-is_free id None = true
-is_free id (Some other) = not (id == other)
+abbrev pub is_other_than : ℕ → Option ℕ → Bool
+is_other_than id None = true
+is_other_than id (Some other) = not (id == other)
 
 -- whether a terminal may be told, where this one and the other may have been told before
 abbrev pub may_be_terminal : Option (ℕ × ℕ) → Option ℕ → Option ℕ → ℕ → Bool
 may_be_terminal None this other id = false
-may_be_terminal (Some p) this other id = is_none this && is_node_number p.0 id && is_free id other
+may_be_terminal (Some p) this other id = is_none this && is_node_number p.0 id && is_other_than id other
 
 -- whether an arc may be told after so many
 abbrev pub may_go : Option (ℕ × ℕ) → ℕ → ℕ → ℕ → ℕ → Bool

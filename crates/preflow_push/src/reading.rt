@@ -5,7 +5,7 @@ ghost use Rattle.gx_base.specs.declared.inputs.InputFault as fault;
 ghost use Rattle.gx_base.specs.declared.inputs.InputFault.TheVariants as faults;
 ghost use Rattle.preflow_push.specs.FlowLimits.{CallsFor, answer_of, sized};
 ghost use Rattle.preflow_push.specs.FlowLines.{IsSmall};
-ghost use Rattle.preflow_push.specs.FlowReading.{state, at_first, step, whole, AreSmall, flow_of, AnswersReading, ended, is_node_number, is_free, may_be_terminal, may_go};
+ghost use Rattle.preflow_push.specs.FlowReading.{state, at_first, step, whole, AreSmall, flow_of, AnswersReading, ended, is_node_number, is_other_than, may_be_terminal, may_go};
 ghost use Rattle.preflow_push.specs.Networks.{Net, view};
 
 use super::flow_lines::{Said, said_by};
@@ -163,7 +163,7 @@ fn may_be_terminal(
 {
     match problem {
         None => false,
-        Some((nodes, _)) => this.is_none() && is_node_number(nodes, id) && is_free(id, other),
+        Some((nodes, _)) => this.is_none() && is_node_number(nodes, id) && is_other_than(id, other),
     }
 }
 
@@ -190,8 +190,8 @@ fn is_node_number(nodes: u64, id: u64) -> bool
 }
 
 /// Whether the other terminal isn't this node.
-fn is_free(id: u64, other: Option<u64>) -> bool
-    ensures { result ≡ is_free id other }
+fn is_other_than(id: u64, other: Option<u64>) -> bool
+    ensures { result ≡ is_other_than id other }
 {
     match other {
         None => true,

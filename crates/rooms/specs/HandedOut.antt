@@ -11,7 +11,7 @@ is_ordered (OfGate start kind table) = false
 is_ordered (OfBook ready ordered) = ordered
 
 -- a value that may stand in a room: it is a book exactly in the book's room, and is then ordered as the rooms tell
-pub record Suits (book : ℕ) (ordered : Bool) (room : ℕ) (seen : RoomView) : Type 0 where
+pub record MayStand (book : ℕ) (ordered : Bool) (room : ℕ) (seen : RoomView) : Type 0 where
   pub book_where : is_book seen.origin ≡ (room == book)
   pub ordered_as : is_book seen.origin ≡ true → is_ordered seen.origin ≡ ordered
 
@@ -23,24 +23,24 @@ abbrev pub greatest_mark : {V : Type 0} → RoomsView V → ℕ → ℕ
 greatest_mark view room = if view.released room then commits_entered view + 1 else commits_entered view
 
 -- where the room's value was told, it is this one
-abbrev pub IsTold : {V : Type 0} → Option V → V → Type 0
-IsTold None value = ⊤
-IsTold (Some told) value = value ≡ told
+abbrev pub IsValueTold : {V : Type 0} → Option V → V → Type 0
+IsValueTold None value = ⊤
+IsValueTold (Some told) value = value ≡ told
 
 -- a value that is handed out
 pub record IsHandedOut {V : Type 0} (tells : V → RoomView) (view : RoomsView V) (room : ℕ) (value : V) : Type 0 where
-  pub suits : Suits view.book view.ordered room (tells value)
+  pub suits : MayStand view.book view.ordered room (tells value)
   pub live : is_book (tells value).origin ≡ false → entries_for view.acts_for (tells value).live ≡ view.live room
   pub mark : is_book (tells value).origin ≡ false → holds_book view ≡ true → (tells value).mark ≤ greatest_mark view room
-  pub told : IsTold (view.told room) value
+  pub told : IsValueTold (view.told room) value
 
 -- a count rose: at the last value of its type it stays
-abbrev pub HasRisen : ℕ → ℕ → Type 0
-HasRisen before now = (before < now) ⊎ ((before ≡ 18446744073709551615) × (now ≡ 18446744073709551615))
+abbrev pub CountHasRisen : ℕ → ℕ → Type 0
+CountHasRisen before now = (before < now) ⊎ ((before ≡ 18446744073709551615) × (now ≡ 18446744073709551615))
 
 -- another caller held the room: its count of lost takes rose, and nothing else changed
 pub record IsLost {V : Type 0} (before after : RoomsView V) (room : ℕ) : Type 0 where
-  pub risen : HasRisen (before.lost room) (after.lost room)
+  pub risen : CountHasRisen (before.lost room) (after.lost room)
   pub same : after ≡ record before { lost = put before.lost room (after.lost room) }
 
 -- ---- what is taken back
@@ -56,6 +56,6 @@ pub record MayHaveCommits {V : Type 0} (view : RoomsView V) (commits : List Whol
 
 -- a value that may be left in a held room
 pub record MayBeLeft {V : Type 0} (view : RoomsView V) (room : ℕ) (seen : RoomView) : Type 0 where
-  pub suits : Suits view.book view.ordered room seen
+  pub suits : MayStand view.book view.ordered room seen
   pub mark : is_book seen.origin ≡ false → MayHaveMark view room seen.mark
   pub commits : is_book seen.origin ≡ true → MayHaveCommits view seen.commits

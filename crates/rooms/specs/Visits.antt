@@ -5,7 +5,7 @@ use Rattle.std.specs.Coded.{Coded, code_by, coded×, coded_ℕ, coded_bool, code
 use Rattle.gx_base.specs.declared.acts.Entry.{Entry}
 use Rattle.gx_base.specs.RoomViews.{RoomView, is_book}
 use Rattle.rooms.specs.RoomsViews.{RoomsView, is_held, holds_book, entries_for, nowhere, entered, left}
-use Rattle.rooms.specs.HandedOut.{is_ordered, Suits}
+use Rattle.rooms.specs.HandedOut.{is_ordered, MayStand}
 
 -- a value was handed out of a room, or was left in it
 pub record Move (V : Type 0) : Type 0 where
@@ -80,13 +80,13 @@ count_of tells view = count_in tells (view.told view.book)
 
 -- Each value that isn't held is the one in the vector, and each held one was told by its room as it was entered; each stands
 -- where it may, and no gate's mark is more than the number of commits, or one more than that where the room was released.
-pub record AreKept {V : Type 0} (tells : V → RoomView) (view : RoomsView V) (values : List V) : Type 0 where
+pub record AreKeptValues {V : Type 0} (tells : V → RoomView) (view : RoomsView V) (values : List V) : Type 0 where
   pub size : length values ≡ view.book + 1
   pub limit : view.book < 2 ^ 32
   pub home : (room : ℕ) → is_held view room ≡ false → view.told room ≡ slice_get values room
   pub held : (room : ℕ) → is_held view room ≡ true → view.held room ≡ option_map tells (view.told room)
   pub in_range : (room : ℕ) → is_held view room ≡ true → room ≤ view.book
-  pub suits : (room : ℕ) (value : V) → view.told room ≡ Some value → Suits view.book view.ordered room (tells value)
+  pub suits : (room : ℕ) (value : V) → view.told room ≡ Some value → MayStand view.book view.ordered room (tells value)
   pub live : (room : ℕ) (value : V) → view.told room ≡ Some value → entries_for view.acts_for (tells value).live ≡ view.live room
   pub marks : (room : ℕ) (value : V) → view.told room ≡ Some value → is_book (tells value).origin ≡ false → (tells value).mark ≤ (if view.released room then count_of tells view + 1 else count_of tells view)
   pub released : (room : ℕ) → view.released room ≡ true → holds_book view ≡ true
@@ -95,7 +95,7 @@ pub record AreKept {V : Type 0} (tells : V → RoomView) (view : RoomsView V) (v
 pub record AreTold {V : Type 0} (tells : V → RoomView) (view : RoomsView V) : Type 0 where
   pub there : (room : ℕ) → room ≤ view.book → is_some (view.told room) ≡ true
   pub no_more : (room : ℕ) → view.book < room → view.told room ≡ None
-  pub suits : (room : ℕ) (value : V) → view.told room ≡ Some value → Suits view.book view.ordered room (tells value)
+  pub suits : (room : ℕ) (value : V) → view.told room ≡ Some value → MayStand view.book view.ordered room (tells value)
   pub live : (room : ℕ) (value : V) → view.told room ≡ Some value → entries_for view.acts_for (tells value).live ≡ view.live room
 
 -- ---- how these are stored

@@ -4,7 +4,7 @@ ghost use Rattle.std.specs.Prelude.{◌≡◌, ◌+◌, ◌==◌, ℕ, true, fal
 ghost use Rattle.gx_base.specs.Replays.{put};
 ghost use Rattle.gx_base.specs.RoomViews.{RoomView};
 ghost use Rattle.rooms.specs.RoomsViews.{RoomsView, holds_book, commits_entered, nowhere, entered, with_value, left};
-ghost use Rattle.rooms.specs.HandedOut.{HasRisen};
+ghost use Rattle.rooms.specs.HandedOut.{CountHasRisen};
 ghost use Rattle.rooms.specs.Visits.{Visits, view_of, everyone};
 
 use gx_base::Homed;
@@ -21,5 +21,5 @@ pub fn a_visit_changes_one_room<V: Homed>()
 pub fn vectors_lose_no_take<V: Homed>()
     ensures everyone { (visits : Visits V) → (view_of V.told visits).acts_for ≡ everyone }
     ensures lost { (visits : Visits V) (room : ℕ) → (view_of V.told visits).lost room ≡ 0 }
-    ensures never { (before after : Visits V) (room : ℕ) → HasRisen ((view_of V.told before).lost room) ((view_of V.told after).lost room) → ⊥ }
+    ensures never { (before after : Visits V) (room : ℕ) → CountHasRisen ((view_of V.told before).lost room) ((view_of V.told after).lost room) → ⊥ }
 {}

@@ -21,7 +21,7 @@ pub struct VecRooms<V: Vacant> {
 }
 
 impl<V: Vacant> Model for VecRooms<V> {
-    ghost use Rattle.rooms.specs.Visits.{Visits, visits_code, view_of, AreKept};
+    ghost use Rattle.rooms.specs.Visits.{Visits, visits_code, view_of, AreKeptValues};
     ghost use Rattle.rooms.specs.Histories.{visits_of};
 
     ghost Value = { Visits V };
@@ -30,7 +30,7 @@ impl<V: Vacant> Model for VecRooms<V> {
 
     ghost view = { λ rooms. visits_of rooms.history };
 
-    ghost invariant = { λ rooms. AreKept V.told (view_of V.told (visits_of rooms.history)) rooms.values.items };
+    ghost invariant = { λ rooms. AreKeptValues V.told (view_of V.told (visits_of rooms.history)) rooms.values.items };
 }
 
 impl<V: Vacant> VecRooms<V> {

@@ -15,7 +15,7 @@ use Rattle.rooms.specs.declared.values.Value.{Value}
 use Rattle.rooms.specs.declared.values.Value.TheVariants.{Object, Book}
 use Rattle.iterate.specs.Places.{IsLogIn, IsLogOf, IfTold, gate_of, IsFit}
 use Rattle.iterate.specs.SessionViews.{SessionView, begun_view}
-use Rattle.session_cases.specs.Beginnings.{IsBegunGate, AreBegun}
+use Rattle.session_cases.specs.Beginnings.{IsBegunGate, MayBeginHere}
 use Rattle.session_cases.specs.LostTakes.{lossy_view}
 
 no_bool : (b : Bool) → b ≡ true → b ≡ false → ⊥
@@ -64,7 +64,7 @@ module _ (T S : Type 0) (free blocked : GateView) (book : BookView) (f : IsBegun
   told_logs (suc (suc zero)) = no_log 2 (begun_view 0).at.item [] no_others
   told_logs (suc (suc (suc room))) = tt
 
-  pub three_begin : book.ordered ≡ false → AreBegun (view_of tells (record { values = values; moves = [] }))
+  pub three_begin : book.ordered ≡ false → MayBeginHere (view_of tells (record { values = values; moves = [] }))
   three_begin o op rooms ordered = record {
     acts = refl;
     book = sym rooms;
@@ -77,18 +77,18 @@ module _ (T S : Type 0) (free blocked : GateView) (book : BookView) (f : IsBegun
   }
 
 -- lost takes change nothing of that
-pub lossy_begin : {T S : Type 0} (visits : Visits (Value T S)) (lost : List ℕ) → AreBegun (view_of tells visits) → AreBegun (lossy_view tells visits lost)
+pub lossy_begin : {T S : Type 0} (visits : Visits (Value T S)) (lost : List ℕ) → MayBeginHere (view_of tells visits) → MayBeginHere (lossy_view tells visits lost)
 lossy_begin visits lost begun op rooms ordered =
     let fit = begun op rooms ordered in
     record { acts = fit.acts; book = fit.book; ordered = fit.ordered; ordered_told = fit.ordered_told; live = fit.live; live_told = fit.live_told; within = fit.within; doing = fit.doing }
 
-pub three_begin_as : {T S : Type 0} (free blocked : GateView) (book : BookView) → IsBegunGate free → IsBegunGate blocked → (visits : Visits (Value T S)) (items : List (Value T S)) → visits ≡ record { values = items; moves = [] } → items ≡ Object free ∷ Object blocked ∷ Book book ∷ [] → book.ordered ≡ false → AreBegun (view_of tells visits)
+pub three_begin_as : {T S : Type 0} (free blocked : GateView) (book : BookView) → IsBegunGate free → IsBegunGate blocked → (visits : Visits (Value T S)) (items : List (Value T S)) → visits ≡ record { values = items; moves = [] } → items ≡ Object free ∷ Object blocked ∷ Book book ∷ [] → book.ordered ≡ false → MayBeginHere (view_of tells visits)
 three_begin_as {T} {S} free blocked book f b visits items new made o =
-    subst (λ v. AreBegun (view_of tells v)) (sym new) (subst (λ (vs : List (Value T S)). let v : Visits (Value T S) = record { values = vs; moves = [] } in AreBegun (view_of tells v)) (sym made) (three_begin T S free blocked book f b o))
+    subst (λ v. MayBeginHere (view_of tells v)) (sym new) (subst (λ (vs : List (Value T S)). let v : Visits (Value T S) = record { values = vs; moves = [] } in MayBeginHere (view_of tells v)) (sym made) (three_begin T S free blocked book f b o))
 
 -- the same of what may be made of the rooms
-pub lossy_begin_if : {T S L E : Type 0} (rooms_of : L → Visits (Value T S)) (lost_of : L → List ℕ) (visits : Visits (Value T S)) (made : Result L E) → AreBegun (view_of tells visits) → IfOk made (λ lossy. rooms_of lossy ≡ visits) → IfOk made (λ lossy. AreBegun (lossy_view tells (rooms_of lossy) (lost_of lossy)))
-lossy_begin_if rooms_of lost_of visits (Ok lossy) begun same = lossy_begin (rooms_of lossy) (lost_of lossy) (subst (λ v. AreBegun (view_of tells v)) (sym same) begun)
+pub lossy_begin_if : {T S L E : Type 0} (rooms_of : L → Visits (Value T S)) (lost_of : L → List ℕ) (visits : Visits (Value T S)) (made : Result L E) → MayBeginHere (view_of tells visits) → IfOk made (λ lossy. rooms_of lossy ≡ visits) → IfOk made (λ lossy. MayBeginHere (lossy_view tells (rooms_of lossy) (lost_of lossy)))
+lossy_begin_if rooms_of lost_of visits (Ok lossy) begun same = lossy_begin (rooms_of lossy) (lost_of lossy) (subst (λ v. MayBeginHere (view_of tells v)) (sym same) begun)
 lossy_begin_if rooms_of lost_of visits (Err e) begun same = tt
 
 pub fit_at_first : {T S : Type 0} (op : Operator) (rooms : RoomsView (Value T S)) (session : SessionView) → session ≡ begun_view 0 → IsFit op rooms (begun_view 0) → IsFit op rooms session

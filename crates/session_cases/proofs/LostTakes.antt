@@ -6,7 +6,7 @@ use Rattle.std.proofs.lemmas.List.{get_or-set_same, get_or-set_other}
 use Rattle.std.proofs.lemmas.Option.{slice_get_read, get_or_from_slice_get}
 use Rattle.std.specs.Cmp.{unsigned_Decides}
 use Rattle.gx_base.specs.RoomViews.{RoomView}
-use Rattle.rooms.specs.HandedOut.{HasRisen, IsLost}
+use Rattle.rooms.specs.HandedOut.{CountHasRisen, IsLost}
 use Rattle.rooms.specs.Visits.{Visits, view_of}
 use Rattle.rooms.proofs.CallerLemmas.{vector_never_risen}
 use Rattle.session_cases.specs.LostTakes.{lossy_view}
@@ -22,16 +22,16 @@ module _ (lost : List ℕ) (room count : ℕ) (inside : room < length lost) wher
     apart true p q = absurd (cc)
     apart false p q = absurd (cc)
 
-  take_is_lost : {V : Type 0} (tells : V → RoomView) (visits : Visits V) → HasRisen (slice_index_or lost room 0) count → IsLost (lossy_view tells visits lost) (lossy_view tells visits (slice_set lost room count)) room
+  take_is_lost : {V : Type 0} (tells : V → RoomView) (visits : Visits V) → CountHasRisen (slice_index_or lost room 0) count → IsLost (lossy_view tells visits lost) (lossy_view tells visits (slice_set lost room count)) room
   take_is_lost tells visits h = record {
-    risen = subst (λ n. HasRisen (slice_index_or lost room 0) n) (sym here) h;
+    risen = subst (λ n. CountHasRisen (slice_index_or lost room 0) n) (sym here) h;
     same = λ i. record (view_of tells visits) { lost = λ number. counts_by number (room == number) refl i };
   }
 
-rises : (was count : ℕ) → was ≤ 18446744073709551615 → count ≡ min (was + 1) 18446744073709551615 → HasRisen was count
+rises : (was count : ℕ) → was ≤ 18446744073709551615 → count ≡ min (was + 1) 18446744073709551615 → CountHasRisen was count
 rises was count small is = by (cases_lt was 18446744073709551615)
   where
-    by : (was < 18446744073709551615) ⊎ (18446744073709551615 ≤ was) → HasRisen was count
+    by : (was < 18446744073709551615) ⊎ (18446744073709551615 ≤ was) → CountHasRisen was count
     by (inl below) = inl (omega arith)
     by (inr full) = inr (omega arith, omega arith)
 
@@ -43,7 +43,7 @@ take_is_counted tells rooms rooms_now lost lost_now room was count same_rooms sa
     (subst (λ l. IsLost (lossy_view tells rooms lost) (lossy_view tells rooms (slice_set l room count)) room) (sym same_lost)
     (let inside : room < length lost = omega arith in
     let read : slice_index_or lost room 0 ≡ was = get_or_from_slice_get lost room was 0 (slice_get_read lost (length lost) room was refl inside (subst (λ l. was ≡ slice_index_or l room was) same_lost value)) in
-    take_is_lost lost room count inside tells rooms (subst (λ n. HasRisen n count) (sym read) (rises was count small is))))
+    take_is_lost lost room count inside tells rooms (subst (λ n. CountHasRisen n count) (sym read) (rises was count small is))))
 
 take_is_never_lost : {V : Type 0} (tells : V → RoomView) (before after : Visits V) (room : ℕ) → IsLost (view_of tells before) (view_of tells after) room → ⊥
 take_is_never_lost tells before after room h = vector_never_risen tells before after room h.risen

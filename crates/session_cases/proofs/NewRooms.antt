@@ -13,17 +13,17 @@ use Rattle.rooms.specs.Visits.{Visits, AreGatesAndBook, last_commits, view_of}
 use Rattle.rooms.specs.declared.values.Value.{Value}
 use Rattle.rooms.specs.declared.values.Value.TheVariants.{Object, Book}
 use Rattle.iterate.specs.Plays.{IsNewGateIn, AreNewFor}
-use Rattle.session_cases.specs.Beginnings.{IsNewGate, AreNewGates, AreNewRooms}
+use Rattle.session_cases.specs.Beginnings.{HasNoEntries, AreNewGates, AreNewRooms}
 
 pub below_push : (xs : List ℕ) (x n : ℕ) → AllBelow xs n → x < n → AllBelow (xs ++ x ∷ []) n
 below_push [] x n all below = (below, tt)
 below_push (y ∷ ys) x n all below = (all.0, below_push ys x n all.1 below)
 
-no_mark : (gate : GateView) (n : ℕ) → IsNewGate gate → gate.mark ≤ n
+no_mark : (gate : GateView) (n : ℕ) → HasNoEntries gate → gate.mark ≤ n
 no_mark gate n is = let e : gate.mark ≡ 0 = is.unmarked in omega arith
 
 module _ {T S : Type 0} where
-  pub new_gates_push : (values : List (Value T S)) (gate : GateView) → AreNewGates values → IsNewGate gate → AreNewGates (values ++ Object gate ∷ [])
+  pub new_gates_push : (values : List (Value T S)) (gate : GateView) → AreNewGates values → HasNoEntries gate → AreNewGates (values ++ Object gate ∷ [])
   new_gates_push [] gate new is = (is, tt)
   new_gates_push (Object first ∷ values) gate new is = (new.0, new_gates_push values gate new.1 is)
   new_gates_push (Book book ∷ values) gate new is = absurd new

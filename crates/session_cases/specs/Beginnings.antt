@@ -16,20 +16,20 @@ pub record IsBegunGate (gate : GateView) : Type 0 where
   pub others : Each (λ e. (e.worker == 0) ≡ false) gate.live
 
 -- worker 0 may begin in these rooms: two gates and a book that isn't ordered
-abbrev pub AreBegun : {T S : Type 0} → RoomsView (Value T S) → Type 0
-AreBegun rooms = (op : Operator) → op.rooms ≡ 2 → op.ordered ≡ false → IsFit op rooms (begun_view 0)
+abbrev pub MayBeginHere : {T S : Type 0} → RoomsView (Value T S) → Type 0
+MayBeginHere rooms = (op : Operator) → op.rooms ≡ 2 → op.ordered ≡ false → IsFit op rooms (begun_view 0)
 
 -- ---- whole runs
 
 -- a gate without entries
-pub record IsNewGate (gate : GateView) : Type 0 where
+pub record HasNoEntries (gate : GateView) : Type 0 where
   pub no_done : gate.done ≡ []
   pub no_live : gate.live ≡ []
   pub unmarked : gate.mark ≡ 0
 
 abbrev pub AreNewGates : {T S : Type 0} → List (Value T S) → Type 0
 AreNewGates [] = ⊤
-AreNewGates (Object gate ∷ values) = IsNewGate gate × AreNewGates values
+AreNewGates (Object gate ∷ values) = HasNoEntries gate × AreNewGates values
 AreNewGates (Book book ∷ values) = ⊥
 
 -- a run of an operator with so many rooms may begin in these

@@ -7,7 +7,7 @@ ghost use Rattle.iterate.specs.Places.{IsFit};
 ghost use Rattle.iterate.specs.SessionViews.{view_of as session_view};
 ghost use Rattle.rooms.specs.Values.{tells};
 ghost use Rattle.rooms.specs.Visits.{view_of};
-ghost use Rattle.session_cases.specs.Beginnings.{IsBegunGate, AreBegun};
+ghost use Rattle.session_cases.specs.Beginnings.{IsBegunGate, MayBeginHere};
 ghost use Rattle.session_cases.specs.LostTakes.{lossy_view};
 
 use crate::lossy_rooms::LossyRooms;
@@ -112,7 +112,7 @@ fn blocked_gate(alloc: Global) -> Result<Gate<Cells, ScanScreen>, NoMemory>
 
 /// Two gates, the second of which is blocked, and the book, in which an item is ready.
 fn three_rooms(alloc: Global, first: i64) -> Result<VecRooms<Value<Cells, ScanScreen>>, NoMemory>
-    ensures { IfOk result (λ rooms. AreBegun (view_of tells rooms)) }
+    ensures { IfOk result (λ rooms. MayBeginHere (view_of tells rooms)) }
 {
     let free = cells_gate(alloc)?;
     let blocked = blocked_gate(alloc)?;
@@ -131,7 +131,7 @@ fn lossy_rooms(
     first: i64,
     lost: &[bool],
 ) -> Result<LossyRooms<Value<Cells, ScanScreen>>, NoMemory>
-    ensures { IfOk result (λ lossy. AreBegun (lossy_view tells lossy.rooms lossy.lost.items)) }
+    ensures { IfOk result (λ lossy. MayBeginHere (lossy_view tells lossy.rooms lossy.lost.items)) }
 {
     let rooms = three_rooms(alloc, first)?;
     LossyRooms::new(alloc, rooms, from_the_last(alloc, lost)?)

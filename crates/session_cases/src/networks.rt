@@ -4,7 +4,7 @@ ghost use Rattle.std.specs.Prelude.{◌≡◌, ◌<◌, ◌+◌, ◌^◌, length
 ghost use Rattle.rooms.specs.Values.{tells};
 ghost use Rattle.rooms.specs.Visits.{view_of};
 ghost use Rattle.speculation.specs.ScheduledRuns.{AllBelow};
-ghost use Rattle.session_cases.specs.Beginnings.{IsNewGate, AreNewGates, AreNewRooms};
+ghost use Rattle.session_cases.specs.Beginnings.{HasNoEntries, AreNewGates, AreNewRooms};
 
 use crate::plain_rooms::PlainRoom;
 use commit_book::Book;
@@ -130,7 +130,7 @@ fn begin(rooms: &mut [PlainRoom], method: u32, number: i64, value: i64) -> Resul
 }
 
 fn flow_gate(alloc: Global, shard: FlowShard) -> Result<Gate<FlowShard, ScanScreen>, NoMemory>
-    ensures { IfOk result (λ gate. IsNewGate gate) }
+    ensures { IfOk result (λ gate. HasNoEntries gate) }
 {
     let table = FlowShard::shipped(alloc, Kind::Flow, Choice::Precise)?;
     shipped_tables_serve_gates::<FlowShard>();

@@ -17,7 +17,7 @@ use Rattle.speculation.specs.Sessions.{Session, Phase, Idle, Running, Finished, 
 use Rattle.speculation.specs.Machines.{Machine, Place, place_of, settled, reply_in, named_off, given_up, committed, Turned, take, live_at, answer, entry_of, undo_step, undo, finish, go, turn_in, turn_at, turn}
 use Rattle.speculation.specs.EventRows.{IsFirstInWay, IsAsking, IsFinished, HasToUndo, Happens}
 use Rattle.speculation.specs.ScheduledRuns.{is_empty, Run, begun, then_turned, scheduled, drain, alone, drained, played}
-use Rattle.speculation.specs.RunResults.{IsScheduledRun, IsLoneRun, IsWholeRun}
+use Rattle.speculation.specs.RunResults.{IsScheduledRun, IsLoneRun, IsWholeScheduledRun}
 use Rattle.speculation.proofs.Putting.{both_are}
 use Rattle.speculation.proofs.Steps.{last_is_none}
 use Rattle.speculation.proofs.InWay.{none_in_way, nothing_found, first_in_way, found_in_way, held_in_way}
@@ -192,13 +192,13 @@ module _ (op : Operator) where
       let p : IsTurned op m 0 (h.1).0 (h.1).1 (turn_at op (place_of m 0) 0) = no_other op m 0 (h.1).0 (h.1).1 (h.1).2 in
       one_lone (h.1).1 last turns (h.1).3 ∙ ap (λ n. alone op n turns) p.1 ∙ sym (ap (λ (b : Bool). if b then m else alone op (turn op m 0) turns) h.0)
 
-  pub is_whole : (m : Machine) (workers : ℕ) (schedule : List ℕ) (turns : ℕ) → IsWholeRun op m workers schedule turns (played op m workers schedule turns)
+  pub is_whole : (m : Machine) (workers : ℕ) (schedule : List ℕ) (turns : ℕ) → IsWholeScheduledRun op m workers schedule turns (played op m workers schedule turns)
   unfolding played drained
   is_whole m workers schedule turns =
       let r : Run = scheduled op (begun m) schedule in
       (r, is_run (begun m) schedule, is_lone (drain r workers).machine turns, refl)
 
-  pub one_whole : (m : Machine) (workers : ℕ) (schedule : List ℕ) (turns : ℕ) (last : Run) → IsWholeRun op m workers schedule turns last → last ≡ played op m workers schedule turns
+  pub one_whole : (m : Machine) (workers : ℕ) (schedule : List ℕ) (turns : ℕ) (last : Run) → IsWholeScheduledRun op m workers schedule turns last → last ≡ played op m workers schedule turns
   unfolding played drained
   one_whole m workers schedule turns last h =
       let same : h.0 ≡ scheduled op (begun m) schedule = one_run (begun m) h.0 schedule h.1 in

@@ -8,7 +8,7 @@ use Rattle.gx_base.specs.Replays.{part}
 use Rattle.gx_base.specs.SerialIterations.{Ended}
 use Rattle.gx_base.specs.SerialRuns.{IsSerialRun}
 use Rattle.gate_core.specs.Entries.{mades_of, Each}
-use Rattle.gate_core.specs.Replays.{Legal}
+use Rattle.gate_core.specs.Replays.{LegalEntries}
 use Rattle.gate_core.specs.Views.{live_start}
 use Rattle.speculation.specs.Events.{Event, then_turn}
 use Rattle.speculation.specs.EventRows.{Happens}
@@ -51,7 +51,7 @@ pub record IsOfLiveIteration (sessions : ℕ → Session) (e : Entry) : Type 0 w
 -- each room's state is the replay, from the first one, of the committed entries and the uncommitted ones that are left. The former are
 -- the part of the journal in the room, and the latter are of live iterations alone. So of an iteration that was given up nothing is left
 pub record HasNoTraceOfAborted (before after : Machine) : Type 0 where
-  pub replayed : (room : ℕ) → Legal (before.gates room).state ((after.gates room).done ++ (after.gates room).live) (after.gates room).state
+  pub replayed : (room : ℕ) → LegalEntries (before.gates room).state ((after.gates room).done ++ (after.gates room).live) (after.gates room).state
   pub committed : (room : ℕ) → mades_of (after.gates room).done ≡ part room (journal after.book.commits)
   pub uncommitted : (room : ℕ) → Each (IsOfLiveIteration after.sessions) (after.gates room).live
 
@@ -70,6 +70,6 @@ IsLoneRun op m (suc turns) last =
     ((is_empty m.book.ready ≡ true) × (last ≡ m)) ⊎ ((is_empty m.book.ready ≡ false) × ((event : Event) × (next : Machine) × Happens op m 0 event next × IsLoneRun op next turns last))
 
 -- a whole run: the scheduled turns by the table, what the drain makes of them, and worker 0 alone by the table
-abbrev pub IsWholeRun : Operator → Machine → ℕ → List ℕ → ℕ → Run → Type 0
-IsWholeRun op m workers schedule turns last =
+abbrev pub IsWholeScheduledRun : Operator → Machine → ℕ → List ℕ → ℕ → Run → Type 0
+IsWholeScheduledRun op m workers schedule turns last =
     (r : Run) × IsScheduledRun op (begun m) schedule r × IsLoneRun op (drain r workers).machine turns last.machine × (last.trace ≡ (drain r workers).trace)

@@ -13,7 +13,7 @@ ghost use Rattle.speculation.specs.Events.{Event, Conflict};
 ghost use Rattle.speculation.specs.Limits.{EndsOrPasses};
 ghost use Rattle.speculation.specs.Machines.{Machine, place_of, turn_at, turn};
 ghost use Rattle.speculation.specs.Premises.{IsNew, ScheduledAsk, AsksCalls};
-ghost use Rattle.speculation.specs.RunResults.{IsSerialInTheEnd, EndsOrCommits, HasNoTraceOfAborted, IsScheduledRun, IsWholeRun};
+ghost use Rattle.speculation.specs.RunResults.{IsSerialInTheEnd, EndsOrCommits, HasNoTraceOfAborted, IsScheduledRun, IsWholeScheduledRun};
 ghost use Rattle.speculation.specs.ScheduledRuns.{Run, begun, scheduled, played, AllBelow};
 
 /// Every run is serial: the scheduled turns, the drain, and worker 0 alone for at most so many turns.
@@ -58,6 +58,6 @@ pub fn a_conflict_names_the_greater()
 pub fn a_schedule_has_one_run()
     ensures is_one { (op : Operator) (r : Run) (schedule : List ℕ) → IsScheduledRun op r schedule (scheduled op r schedule) }
     ensures no_other { (op : Operator) (r last : Run) (schedule : List ℕ) → IsScheduledRun op r schedule last → last ≡ scheduled op r schedule }
-    ensures is_one_whole { (op : Operator) (m : Machine) (workers : ℕ) (schedule : List ℕ) (turns : ℕ) → IsWholeRun op m workers schedule turns (played op m workers schedule turns) }
-    ensures no_other_whole { (op : Operator) (m : Machine) (workers : ℕ) (schedule : List ℕ) (turns : ℕ) (last : Run) → IsWholeRun op m workers schedule turns last → last ≡ played op m workers schedule turns }
+    ensures is_one_whole { (op : Operator) (m : Machine) (workers : ℕ) (schedule : List ℕ) (turns : ℕ) → IsWholeScheduledRun op m workers schedule turns (played op m workers schedule turns) }
+    ensures no_other_whole { (op : Operator) (m : Machine) (workers : ℕ) (schedule : List ℕ) (turns : ℕ) (last : Run) → IsWholeScheduledRun op m workers schedule turns last → last ≡ played op m workers schedule turns }
 {}

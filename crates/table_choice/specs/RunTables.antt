@@ -54,9 +54,9 @@ refusal_of (TooDeep line) = Line line
 refusal_of NoMemoryForText = NoMemory
 
 -- this table is given, but for want of memory
-abbrev pub GivesTable : RowMap → Result RowMap TableRefuse → Type 0
-GivesTable table (Ok given) = given ≡ table
-GivesTable table (Err refused) = refused ≡ NoMemory
+abbrev pub GivesRunTable : RowMap → Result RowMap TableRefuse → Type 0
+GivesRunTable table (Ok given) = given ≡ table
+GivesRunTable table (Err refused) = refused ≡ NoMemory
 
 -- the refusal tells the first pair whose row isn't below
 abbrev pub IsPairRefusal : ℕ → Rows → Rows → TableRefuse → Type 0

@@ -9,7 +9,7 @@ ghost use Rattle.cond_lattice.specs.declared.grades.Grade.TheVariants.{General};
 ghost use Rattle.cond_lattice.specs.Grades.{table_grade};
 ghost use Rattle.cond_lattice.specs.Tables.{AreRowsBelow};
 ghost use Rattle.cond_syntax.specs.TableTexts.{IsTableText};
-ghost use Rattle.table_choice.specs.RunTables.{IsAccepted, IsFaultyText, IsAbove, RefusesWhere, MayServe, IsTableOfRun, GivesTable, IsPairRefusal};
+ghost use Rattle.table_choice.specs.RunTables.{IsAccepted, IsFaultyText, IsAbove, RefusesWhere, MayServe, IsTableOfRun, GivesRunTable, IsPairRefusal};
 ghost use Rattle.table_choice.specs.RunTables as tables;
 ghost use Rattle.table_choice.specs.declared.refusals.TableRefuse.TheVariants as refusals;
 
@@ -39,7 +39,7 @@ fn read_of_kind(alloc: Global, kind: Kind, bytes: &[u8]) -> Result<Table, TableR
     ensures keeps_to_kind { IfOk result (λ table. KeepsToKind (kind_number kind) (row_of table)) }
     ensures line { (line : ℕ) → RefusesWhere (IsFaultyText kind bytes.now line) (refusals.Line line) result }
     ensures only_lines { (first second : ℕ) → result ≢ Err (refusals.NotBelow first second) }
-    ensures only_table { (table : RowMap) → IsTableText (kind ∷ []) bytes.now kind table → GivesTable table result }
+    ensures only_table { (table : RowMap) → IsTableText (kind ∷ []) bytes.now kind table → GivesRunTable table result }
 {
     cond_syntax::laws::read_tables_are_printable();
     cond_syntax::laws::read_tables_are_of_wanted_kinds();

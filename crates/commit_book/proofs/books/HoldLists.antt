@@ -12,7 +12,7 @@ use Rattle.gx_base.specs.declared.items.Item.{Item}
 use Rattle.gx_base.specs.Worklists.{item_cmp, same_item, is_before, with_item}
 use Rattle.commit_book.specs.declared.holds.Holder.{Holder}
 use Rattle.commit_book.specs.BookViews.{Hold, is_hold_of, is_held, held_by, with_hold, without_iteration, without_item_held, holds_after, with_name, is_named_in}
-use Rattle.commit_book.specs.LawfulBooks.{AreAfter, AreRising, AreOthers, AreApart}
+use Rattle.commit_book.specs.LawfulBooks.{AreAfter, AreRising, AreOthers, AreHeldApart}
 use Rattle.commit_book.specs.StoredBooks.{hold_at, holds_of}
 use Rattle.commit_book.proofs.ready.ReadySets.{same_itself}
 use Rattle.commit_book.proofs.ready.RisingItems.{same_is, same_turned, before_then, before_not_same, else_before, rising-with}
@@ -61,7 +61,7 @@ others_after : (h : Hold) (ks : List Hold) → AreOthers h ks → AreAfter h.ite
 others_after h [] a = tt
 others_after h (k ∷ ks) a = (a.0, others_after h ks a.2)
 
-pub apart_rising : (hs : List Hold) → AreApart hs → AreRising (items_held hs)
+pub apart_rising : (hs : List Hold) → AreHeldApart hs → AreRising (items_held hs)
 apart_rising [] a = tt
 apart_rising (h ∷ hs) a = (others_after h hs a.0, apart_rising hs a.1)
 
@@ -134,7 +134,7 @@ pub held_by-held : (hs : List Hold) (worker iter : ℕ) (item : Item) → held_b
 held_by-held [] worker iter item e = absurd (cc)
 held_by-held (h ∷ hs) worker iter item e = held_then_by worker iter h hs item (is_hold_of worker iter h) e (held_by-held hs worker iter item)
 
-ended_by : (worker iter : ℕ) (h : Hold) (hs : List Hold) (item : Item) (mine here : Bool) → is_hold_of worker iter h ≡ mine → same_item h.item item ≡ here → AreApart (h ∷ hs)
+ended_by : (worker iter : ℕ) (h : Hold) (hs : List Hold) (item : Item) (mine here : Bool) → is_hold_of worker iter h ≡ mine → same_item h.item item ≡ here → AreHeldApart (h ∷ hs)
     → (if mine then Some h.item else held_by hs worker iter) ≡ Some item → (held_by hs worker iter ≡ Some item → without_iteration hs worker iter ≡ without_item_held hs item)
     → (if mine then without_iteration hs worker iter else h ∷ without_iteration hs worker iter) ≡ (if here then without_item_held hs item else h ∷ without_item_held hs item)
 ended_by worker iter h hs item true true m s a e rest =
@@ -146,7 +146,7 @@ ended_by worker iter h hs item false true m s a e rest =
 ended_by worker iter h hs item false false m s a e rest = ap (λ l. h ∷ l) (rest e)
 
 -- an iteration's hold ends where that of its item does
-pub ended-item : (hs : List Hold) (worker iter : ℕ) (item : Item) → AreApart hs → held_by hs worker iter ≡ Some item → without_iteration hs worker iter ≡ without_item_held hs item
+pub ended-item : (hs : List Hold) (worker iter : ℕ) (item : Item) → AreHeldApart hs → held_by hs worker iter ≡ Some item → without_iteration hs worker iter ≡ without_item_held hs item
 ended-item [] worker iter item a e = refl
 ended-item (h ∷ hs) worker iter item a e = ended_by worker iter h hs item (is_hold_of worker iter h) (same_item h.item item) refl refl a e (ended-item hs worker iter item a.1)
 
@@ -187,7 +187,7 @@ front_of_others h k [] item e a = refl
 front_of_others h k (m ∷ ms) item e a =
     front_of_by h m (without_item_held ms item) (same_item m.item item) (before_then h.item k.item m.item e a.0) (front_of_others h k ms item e a.2)
 
-swapped_by : (h k : Hold) (ks : List Hold) (item : Item) (before here : Bool) → is_before h.item k.item ≡ before → same_item k.item item ≡ here → same_item h.item item ≡ false → AreApart (k ∷ ks)
+swapped_by : (h k : Hold) (ks : List Hold) (item : Item) (before here : Bool) → is_before h.item k.item ≡ before → same_item k.item item ≡ here → same_item h.item item ≡ false → AreHeldApart (k ∷ ks)
     → without_item_held (with_hold ks h) item ≡ with_hold (without_item_held ks item) h
     → without_item_held (if before then h ∷ k ∷ ks else k ∷ with_hold ks h) item ≡ with_hold (if here then without_item_held ks item else k ∷ without_item_held ks item) h
 swapped_by h k ks item true true b s n a rest =
@@ -205,7 +205,7 @@ swapped_by h k ks item false false b s n a rest =
     ∙ sym (ap (λ c. if c then h ∷ k ∷ without_item_held ks item else k ∷ with_hold (without_item_held ks item) h) b)
 
 -- a hold may begin before that of another item ends
-pub swapped-hold : (hs : List Hold) (h : Hold) (item : Item) → AreApart hs → same_item h.item item ≡ false → without_item_held (with_hold hs h) item ≡ with_hold (without_item_held hs item) h
+pub swapped-hold : (hs : List Hold) (h : Hold) (item : Item) → AreHeldApart hs → same_item h.item item ≡ false → without_item_held (with_hold hs h) item ≡ with_hold (without_item_held hs item) h
 swapped-hold [] h item a n = ap (λ c. if c then [] else h ∷ []) n
 swapped-hold (k ∷ ks) h item a n = swapped_by h k ks item (is_before h.item k.item) (same_item k.item item) refl refl n a (swapped-hold ks h item a.1 n)
 
@@ -219,11 +219,11 @@ others-without_item : (h : Hold) (ks : List Hold) (item : Item) → AreOthers h 
 others-without_item h [] item a = tt
 others-without_item h (k ∷ ks) item a = others-without_item_by h k (without_item_held ks item) (same_item k.item item) a.0 a.1 (others-without_item h ks item a.2)
 
-apart_by : (k : Hold) (ws : List Hold) (here : Bool) → AreOthers k ws → AreApart ws → AreApart (if here then ws else k ∷ ws)
+apart_by : (k : Hold) (ws : List Hold) (here : Bool) → AreOthers k ws → AreHeldApart ws → AreHeldApart (if here then ws else k ∷ ws)
 apart_by k ws true o a = a
 apart_by k ws false o a = (o, a)
 
-pub apart-without_item : (hs : List Hold) (item : Item) → AreApart hs → AreApart (without_item_held hs item)
+pub apart-without_item : (hs : List Hold) (item : Item) → AreHeldApart hs → AreHeldApart (without_item_held hs item)
 apart-without_item [] item a = tt
 apart-without_item (k ∷ ks) item a = apart_by k (without_item_held ks item) (same_item k.item item) (others-without_item k ks item a.0) (apart-without_item ks item a.1)
 
@@ -231,7 +231,7 @@ others-without_iteration : (h : Hold) (ks : List Hold) (worker iter : ℕ) → A
 others-without_iteration h [] worker iter a = tt
 others-without_iteration h (k ∷ ks) worker iter a = others-without_item_by h k (without_iteration ks worker iter) (is_hold_of worker iter k) a.0 a.1 (others-without_iteration h ks worker iter a.2)
 
-pub apart-without_iteration : (hs : List Hold) (worker iter : ℕ) → AreApart hs → AreApart (without_iteration hs worker iter)
+pub apart-without_iteration : (hs : List Hold) (worker iter : ℕ) → AreHeldApart hs → AreHeldApart (without_iteration hs worker iter)
 apart-without_iteration [] worker iter a = tt
 apart-without_iteration (k ∷ ks) worker iter a = apart_by k (without_iteration ks worker iter) (is_hold_of worker iter k) (others-without_iteration k ks worker iter a.0) (apart-without_iteration ks worker iter a.1)
 
@@ -260,11 +260,11 @@ others-with : (g h : Hold) (ks : List Hold) → is_before g.item h.item ≡ true
 others-with g h [] e m a = (e, m, tt)
 others-with g h (k ∷ ks) e m a = others-with_by g h k ks (with_hold ks h) (is_before h.item k.item) e m a (others-with g h ks e m a.2)
 
-apart-with_by : (h k : Hold) (ks : List Hold) (before : Bool) → is_before h.item k.item ≡ before → same_item k.item h.item ≡ false → AreNotOf h.worker h.iter (k ∷ ks) → AreApart (k ∷ ks) → AreApart (with_hold ks h) → AreApart (if before then h ∷ k ∷ ks else k ∷ with_hold ks h)
+apart-with_by : (h k : Hold) (ks : List Hold) (before : Bool) → is_before h.item k.item ≡ before → same_item k.item h.item ≡ false → AreNotOf h.worker h.iter (k ∷ ks) → AreHeldApart (k ∷ ks) → AreHeldApart (with_hold ks h) → AreHeldApart (if before then h ∷ k ∷ ks else k ∷ with_hold ks h)
 apart-with_by h k ks true e s n a rest = ((e, n.0, others_than h k ks e a.0 n.1), a)
 apart-with_by h k ks false e s n a rest = (others-with k h ks (else_before h.item k.item s e) (sym (hold_of_turned h k) ∙ n.0) a.0, rest)
 
-apart-with : (hs : List Hold) (h : Hold) → is_held hs h.item ≡ false → AreNotOf h.worker h.iter hs → AreApart hs → AreApart (with_hold hs h)
+apart-with : (hs : List Hold) (h : Hold) → is_held hs h.item ≡ false → AreNotOf h.worker h.iter hs → AreHeldApart hs → AreHeldApart (with_hold hs h)
 apart-with [] h s n a = (tt, tt)
 apart-with (k ∷ ks) h s n a =
     let p = neither (same_item k.item h.item) (is_held ks h.item) s in
@@ -281,7 +281,7 @@ unheld_still [] worker iter item e = refl
 unheld_still (k ∷ ks) worker iter item e = unheld_by k ks (without_iteration ks worker iter) item (is_hold_of worker iter k) e (unheld_still ks worker iter item)
 
 -- an iteration that gets an item which none holds, in place of its own
-pub apart-given : (hs : List Hold) (h : Hold) → is_held hs h.item ≡ false → AreApart hs → AreApart (with_hold (without_iteration hs h.worker h.iter) h)
+pub apart-given : (hs : List Hold) (h : Hold) → is_held hs h.item ≡ false → AreHeldApart hs → AreHeldApart (with_hold (without_iteration hs h.worker h.iter) h)
 apart-given hs h e a =
     apart-with (without_iteration hs h.worker h.iter) h (unheld_still hs h.worker h.iter h.item e) (none_left hs h.worker h.iter) (apart-without_iteration hs h.worker h.iter a)
 
@@ -298,7 +298,7 @@ not_same_by hs item held false e n h = refl
 
 -- and for one that held an item, which ends after the new hold has begun
 pub given-in_place : (es ins outs : List (Item × Holder)) (hs : List Hold) (item held : Item) (holder : Holder) → holds_of es ≡ hs → ins ≡ insert_entry item_cmp es item holder → outs ≡ remove_entry (is_at (item_cmp held)) ins
-    → AreApart (holds_of es) → is_held hs item ≡ false → held_by hs holder.worker holder.iter ≡ Some held
+    → AreHeldApart (holds_of es) → is_held hs item ≡ false → held_by hs holder.worker holder.iter ≡ Some held
     → holds_of outs ≡ with_hold (without_iteration hs holder.worker holder.iter) (hold_at (item, holder))
 given-in_place es ins outs hs item held holder v e f a n h =
     let unheld : is_held (holds_of es) item ≡ false = ap (λ l. is_held l item) v ∙ n in
@@ -327,11 +327,11 @@ others_as : (k : Hold) (ks : List Hold) → AreOthers k ks → AreOthers (record
 others_as k [] a = tt
 others_as k (m ∷ ms) a = (a.0, a.1, others_as k ms a.2)
 
-renamed_by : (k : Hold) (ks : List Hold) (named : Bool) → AreOthers k ks → AreApart ks → AreApart ((if named then record k { named = true } else k) ∷ ks)
+renamed_by : (k : Hold) (ks : List Hold) (named : Bool) → AreOthers k ks → AreHeldApart ks → AreHeldApart ((if named then record k { named = true } else k) ∷ ks)
 renamed_by k ks true o a = (others_as k ks o, a)
 renamed_by k ks false o a = (o, a)
 
-pub apart-with_name : (hs : List Hold) (worker iter : ℕ) (item : Item) → AreApart hs → AreApart (with_name hs worker iter item)
+pub apart-with_name : (hs : List Hold) (worker iter : ℕ) (item : Item) → AreHeldApart hs → AreHeldApart (with_name hs worker iter item)
 apart-with_name [] worker iter item a = tt
 apart-with_name (k ∷ ks) worker iter item a =
     renamed_by k (with_name ks worker iter item) (is_hold_of worker iter k && is_before item k.item) (others-with_name k ks worker iter item a.0) (apart-with_name ks worker iter item a.1)

@@ -12,7 +12,7 @@ use Rattle.gx_base.specs.Worklists.{has_item, is_least, with_items, without_item
 use Rattle.commit_book.specs.declared.refusals.CommitRefuse.{CommitRefuse}
 use Rattle.commit_book.specs.declared.refusals.CommitRefuse.TheVariants.{NotReady, Spent, Kept}
 use Rattle.commit_book.specs.BookViews.{Hold, BookView, is_held, without_item_held, first_free, new_book, give, give_found, next_free, hold, put_back, name_off, commit, most_commits, most_steps, is_spent, is_past_journal}
-use Rattle.commit_book.specs.LawfulBooks.{AreRising, AreApart, IsLawfulBook, least_before, not_least, or_else, only_if, refusal}
+use Rattle.commit_book.specs.LawfulBooks.{AreRising, AreHeldApart, IsLawfulBook, least_before, not_least, or_else, only_if, refusal}
 use Rattle.commit_book.proofs.books.HoldLists.{apart-without_item, apart-without_iteration, apart-given, apart-with_name}
 use Rattle.commit_book.proofs.books.Pasts.{journal-append}
 use Rattle.commit_book.proofs.ready.ReadySets.{ready_after-pushes}
@@ -39,11 +39,11 @@ with_none = refl
 -- ---- holds
 
 -- with other holds that are apart
-pub other_holds : (b : BookView) (holds : List Hold) → IsLawfulBook b → AreApart holds → IsLawfulBook (record b { holds = holds })
+pub other_holds : (b : BookView) (holds : List Hold) → IsLawfulBook b → AreHeldApart holds → IsLawfulBook (record b { holds = holds })
 other_holds b holds l a = record { in_turn = l.in_turn; rising = l.rising; apart = a; not_more = l.not_more; kept = l.kept }
 
-pub with_holds : (b : BookView) (holds now : List Hold) → IsLawfulBook b → now ≡ holds → AreApart holds → IsLawfulBook (record b { holds = now })
-with_holds b holds now l e a = other_holds b now l (subst AreApart (sym e) a)
+pub with_holds : (b : BookView) (holds now : List Hold) → IsLawfulBook b → now ≡ holds → AreHeldApart holds → IsLawfulBook (record b { holds = now })
+with_holds b holds now l e a = other_holds b now l (subst AreHeldApart (sym e) a)
 
 unheld_by : (holds : List Hold) (x : Item) (xs : List Item) (item : Item) (held : Bool) → is_held holds x ≡ held → (if held then first_free holds xs else Some x) ≡ Some item → (first_free holds xs ≡ Some item → is_held holds item ≡ false) → is_held holds item ≡ false
 unheld_by holds x xs item true h e rest = rest e

@@ -14,7 +14,7 @@ use Rattle.gx_base.specs.Worklists.{item_cmp, same_item, is_before, has_item, is
 use Rattle.gx_base.specs.declared.acts.Commit.{Commit}
 use Rattle.gx_base.specs.SerialRuns.{counted, all_counted}
 use Rattle.gx_base.specs.SerialIterations.{body, Ended, may_commit, ready_after, with_first, serial, least_first}
-use Rattle.commit_book.specs.SerialRuns.{IsWholeRun, IsUnfinished, IsDetermined}
+use Rattle.commit_book.specs.SerialRuns.{IsWholeSerialRun, IsUnfinished, IsDetermined}
 use Rattle.commit_book.proofs.ready.ReadySets.{item_cmp_total, is_equal, item_equal}
 
 both : (a b : Bool) → (a && b) ≡ true → (a ≡ true) × (b ≡ true)
@@ -117,7 +117,7 @@ length-order_of (c ∷ cs) = ap suc (length-order_of cs)
 as_many : (told : List Commit) (commits : List WholeCommit) → told ≡ all_counted commits → length (order_of commits) ≡ length told
 as_many told commits e = length-order_of commits ∙ sym (length-map commits counted) ∙ ap length (sym e)
 
-never_unfinished : (op : Operator) (states after other : ℕ → State) (ready : List Item) (told : List Commit) → IsWholeRun op states ready told after → IsUnfinished op states ready other → ⊥
+never_unfinished : (op : Operator) (states after other : ℕ → State) (ready : List Item) (told : List Commit) → IsWholeSerialRun op states ready told after → IsUnfinished op states ready other → ⊥
 never_unfinished op states after other ready told w s =
     let end : Ended = record { states = after; ready = []; outcomes = w.outcomes } in
     let whole : List Item = order_of w.run.commits in

@@ -4,7 +4,7 @@ use Rattle.std.proofs.Common.{refl, ap, subst}
 use Rattle.text_lines.proofs.CallerLemmas.{number_of-below}
 use Rattle.text_lines.specs.Numbers.{number_of}
 use Rattle.cond_syntax.specs.Pieces.{pieces_of}
-use Rattle.cond_syntax.specs.Tokens.{Token, Word, Number, TypeKey, OrKey, AndKey, NotKey, TrueKey, FalseKey, BeyondKey, Open, Close, Comma, Colon, Equal, Differ, Less, AtMost, Odd, word_token, sign_token, positive_token, negative_token, token_of, tokens_of}
+use Rattle.cond_syntax.specs.Tokens.{Token, Word, Number, TypeKey, OrKey, AndKey, NotKey, TrueKey, FalseKey, BeyondKey, Open, Close, Comma, Colon, Equal, Differ, Less, AtMost, Odd, word_token, sign_token, positive_token, negative_token, token_of, tokens_in}
 use Rattle.cond_syntax.specs.WrittenConditions.{WrittenTerm, Fixed, Named, Far, WrittenCondition, True, False, Compare, And, Or, Not}
 use Rattle.cond_syntax.specs.Grammar as grammar
 use Rattle.cond_syntax.specs.Grammar.{IsTerm, IsCondition, IsConjunction, IsUnit}
@@ -78,7 +78,7 @@ pieces-AreSmall [] = tt
 pieces-AreSmall (piece ∷ pieces) = (token-IsSmall piece, pieces-AreSmall pieces)
 
 -- each number of a line's tokens has at most 18 digits
-pub tokens-AreSmall : (line : List ℕ) → AreSmall (tokens_of line)
+pub tokens-AreSmall : (line : List ℕ) → AreSmall (tokens_in line)
 tokens-AreSmall line = pieces-AreSmall (pieces_of line)
 
 -- ---- trees

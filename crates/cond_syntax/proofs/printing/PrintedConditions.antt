@@ -11,7 +11,7 @@ use Rattle.gx_base.specs.declared.conditions.Term.{Term}
 use Rattle.gx_base.specs.declared.conditions.Term.TheVariants.{Const, Value, Beyond, State}
 use Rattle.gx_base.specs.Conditions.{Condition, True, False, Eq, Ne, Lt, Le, And, Or, Not}
 use Rattle.gx_base.specs.Kinds.{kind_number}
-use Rattle.cond_syntax.specs.Tokens.{Token, Close, AndKey, OrKey, tokens_of}
+use Rattle.cond_syntax.specs.Tokens.{Token, Close, AndKey, OrKey, tokens_in}
 use Rattle.cond_syntax.specs.WrittenConditions as written
 use Rattle.cond_syntax.specs.WrittenConditions.{WrittenCondition, WrittenTerm, has_state_function, Fixed, Named, Far, Comparison, IsEqual, IsOther, IsLess, IsAtMost, Compare, term_of, part_named, condition_in, compared, comparison_of, beyond_of, joined, negated}
 use Rattle.cond_syntax.specs.Grammar as grammar
@@ -207,5 +207,5 @@ onto_spells kind c h = record {
 }
 
 -- the tokens of a printed condition spell it
-pub printed_condition : (kind : Kind) (c : Condition) → IsPrintable kind c → Spells kind (tokens_of (condition_text c)) c
+pub printed_condition : (kind : Kind) (c : Condition) → IsPrintable kind c → Spells kind (tokens_in (condition_text c)) c
 printed_condition kind c h = rw (condition-tokens kind c h.terms) (onto_spells kind c h)

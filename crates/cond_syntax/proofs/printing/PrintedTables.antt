@@ -15,7 +15,7 @@ use Rattle.gx_base.specs.TableRows.{RowMap, pair_cmp, row_of}
 use Rattle.gx_base.proofs.CallerLemmas.{put_row, pair_cmp_total, same_pair, row_of-empty, row_of-insert}
 use Rattle.text_lines.specs.Lines.{lines_of}
 use Rattle.cond_syntax.proofs.tokens.PieceLemmas.{space-IsApart}
-use Rattle.cond_syntax.specs.Tokens.{Word, Colon, tokens_of}
+use Rattle.cond_syntax.specs.Tokens.{Word, Colon, tokens_in}
 use Rattle.cond_syntax.specs.TableTexts.{kind_text, kind_named, is_skipped, IsTypeLine, Untyped, Typed, IsRead, type_line as type_read, row, AreRead}
 use Rattle.cond_syntax.specs.Printing.{condition_text, table_text}
 use Rattle.cond_syntax.specs.Printable.{IsPrintable, IsPrintableTable, IsReadBack}
@@ -28,11 +28,11 @@ use Rattle.cond_syntax.proofs.printing.PrintedLines.{condition_clean, row_text, 
 -- a method of the kind, whose word is read as such
 record IsPrinted (kind : Kind) (method : ℕ) : Type 0 where
   named : method_of (kind_number kind) (word_of method) ≡ Some method
-  token : tokens_of (word_of method) ≡ Word (word_of method) ∷ []
+  token : tokens_in (word_of method) ≡ Word (word_of method) ∷ []
   clean : IsCleanWord method
   seen : (rest : List ℕ) → is_skipped (word_of method ++ rest) ≡ false
 
-printed : (kind : Kind) (method : ℕ) → method_of (kind_number kind) (word_of method) ≡ Some method → tokens_of (word_of method) ≡ Word (word_of method) ∷ [] → IsCleanWord method
+printed : (kind : Kind) (method : ℕ) → method_of (kind_number kind) (word_of method) ≡ Some method → tokens_in (word_of method) ≡ Word (word_of method) ∷ [] → IsCleanWord method
     → ((rest : List ℕ) → is_skipped (word_of method ++ rest) ≡ false) → IsPrinted kind method
 printed kind method n t c s = record { named = n; token = t; clean = c; seen = s }
 
@@ -126,11 +126,11 @@ empty-IsNew (p ∷ ps) = (finite.get-empty pair_cmp p, empty-IsNew ps)
 four_parts : (a b c d e : List ℕ) → a ++ b ++ c ++ d ++ e ≡ a ++ (b ++ (c ++ (d ++ e)))
 four_parts a b c d e = simp append_assoc
 
-row-tokens : (rows : Rows) (i j : ℕ) → tokens_of (word_of i) ≡ Word (word_of i) ∷ [] → tokens_of (word_of j) ≡ Word (word_of j) ∷ []
-    → tokens_of (row_text rows (i, j)) ≡ Word (word_of i) ∷ Word (word_of j) ∷ Colon ∷ tokens_of (condition_text (rows i j))
+row-tokens : (rows : Rows) (i j : ℕ) → tokens_in (word_of i) ≡ Word (word_of i) ∷ [] → tokens_in (word_of j) ≡ Word (word_of j) ∷ []
+    → tokens_in (row_text rows (i, j)) ≡ Word (word_of i) ∷ Word (word_of j) ∷ Colon ∷ tokens_in (condition_text (rows i j))
 row-tokens rows i j first second =
     let text = condition_text (rows i j) in
-    ap tokens_of (four_parts (word_of i) (codes " ") (word_of j) (codes " : ") text)
+    ap tokens_in (four_parts (word_of i) (codes " ") (word_of j) (codes " : ") text)
     ∙ one-Reads (word_of i) (Word (word_of i)) first (32 ∷ (word_of j ++ (codes " : " ++ text))) (space-IsApart (word_of j ++ (codes " : " ++ text)))
     ∙ ap (λ ts. Word (word_of i) ∷ ts) (one-Reads (word_of j) (Word (word_of j)) second (codes " : " ++ text) (space-IsApart (codes ": " ++ text)))
 
@@ -247,7 +247,7 @@ rows_same kind rows h i j =
 
 -- ---- the law
 
-type_is : (kind : Kind) → IsTypeLine (tokens_of (codes "type " ++ kind_text kind)) (kind_text kind)
+type_is : (kind : Kind) → IsTypeLine (tokens_in (codes "type " ++ kind_text kind)) (kind_text kind)
 type_is Set = refl
 type_is kind = refl
 

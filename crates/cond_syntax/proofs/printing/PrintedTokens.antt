@@ -10,7 +10,7 @@ use Rattle.gx_base.specs.declared.conditions.Part.TheVariants.{ArgFirst, ArgSeco
 use Rattle.gx_base.specs.declared.conditions.Term.{Term}
 use Rattle.gx_base.specs.declared.conditions.Term.TheVariants.{Const, Value, Beyond, State}
 use Rattle.gx_base.specs.Conditions.{Condition, True, False, Eq, Ne, Lt, Le, And, Or, Not}
-use Rattle.cond_syntax.specs.Tokens.{Token, Word, Number, OrKey, AndKey, NotKey, TrueKey, FalseKey, BeyondKey, Open, Close, Comma, Equal, Differ, Less, AtMost, token_of, tokens_of}
+use Rattle.cond_syntax.specs.Tokens.{Token, Word, Number, OrKey, AndKey, NotKey, TrueKey, FalseKey, BeyondKey, Open, Close, Comma, Equal, Differ, Less, AtMost, token_of, tokens_in}
 use Rattle.cond_syntax.specs.Printing.{letter_of, digit_of, part_text, state_text, term_text, is_or, is_and_or_or, grouped, condition_text}
 use Rattle.cond_syntax.specs.Printable.{IsPrintableTerm, ArePrintable}
 use Rattle.cond_syntax.proofs.tokens.PieceLemmas.{IsApart, none-IsApart, space-IsApart, close-IsAlone, open-IsAlone, alone-IsApart, alone_piece, tokens-append}
@@ -54,43 +54,43 @@ up_to_seven P a b c d e f g h (suc (suc (suc (suc (suc (suc (suc (suc n)))))))) 
 
 -- a text has these tokens, in front of those of what stands apart
 abbrev pub Reads : List ℕ → (List Token → List Token) → Type 0
-Reads text tokens = (rest : List ℕ) → IsApart rest → tokens_of (text ++ rest) ≡ tokens (tokens_of rest)
+Reads text tokens = (rest : List ℕ) → IsApart rest → tokens_in (text ++ rest) ≡ tokens (tokens_in rest)
 
 -- ---- terms
 
-pub one-Reads : (text : List ℕ) (t : Token) → tokens_of text ≡ t ∷ [] → Reads text (λ ts. t ∷ ts)
-one-Reads text t e rest apart = tokens-append text rest apart ∙ ap (λ ts. ts ++ tokens_of rest) e
+pub one-Reads : (text : List ℕ) (t : Token) → tokens_in text ≡ t ∷ [] → Reads text (λ ts. t ∷ ts)
+one-Reads text t e rest apart = tokens-append text rest apart ∙ ap (λ ts. ts ++ tokens_in rest) e
 
-value-tokens : (side : Side) (place : ℕ) → place ≤ 7 → tokens_of (term_text (Value side place)) ≡ Word (letter_of place ∷ digit_of side ∷ []) ∷ []
-value-tokens First = up_to_seven (λ place. tokens_of (term_text (Value First place)) ≡ Word (letter_of place ∷ 49 ∷ []) ∷ []) refl refl refl refl refl refl refl refl
-value-tokens Second = up_to_seven (λ place. tokens_of (term_text (Value Second place)) ≡ Word (letter_of place ∷ 50 ∷ []) ∷ []) refl refl refl refl refl refl refl refl
+value-tokens : (side : Side) (place : ℕ) → place ≤ 7 → tokens_in (term_text (Value side place)) ≡ Word (letter_of place ∷ digit_of side ∷ []) ∷ []
+value-tokens First = up_to_seven (λ place. tokens_in (term_text (Value First place)) ≡ Word (letter_of place ∷ 49 ∷ []) ∷ []) refl refl refl refl refl refl refl refl
+value-tokens Second = up_to_seven (λ place. tokens_in (term_text (Value Second place)) ≡ Word (letter_of place ∷ 50 ∷ []) ∷ []) refl refl refl refl refl refl refl refl
 
-state-tokens : (side : Side) → tokens_of (state_text side) ≡ Word (state_text side) ∷ []
+state-tokens : (side : Side) → tokens_in (state_text side) ≡ Word (state_text side) ∷ []
 state-tokens First = refl
 state-tokens Second = refl
 
-part_comma : (x : Part) (rest : List ℕ) → tokens_of (part_text x ++ 44 ∷ 32 ∷ rest) ≡ Word (part_text x) ∷ Comma ∷ tokens_of rest
+part_comma : (x : Part) (rest : List ℕ) → tokens_in (part_text x ++ 44 ∷ 32 ∷ rest) ≡ Word (part_text x) ∷ Comma ∷ tokens_in rest
 part_comma ArgFirst rest = refl
 part_comma ArgSecond rest = refl
 part_comma RepFirst rest = refl
 part_comma RepSecond rest = refl
 
-close_tokens : (rest : List ℕ) → tokens_of (41 ∷ rest) ≡ Close ∷ tokens_of rest
+close_tokens : (rest : List ℕ) → tokens_in (41 ∷ rest) ≡ Close ∷ tokens_in rest
 close_tokens rest = ap (map token_of) (alone_piece 41 rest close-IsAlone)
 
-open_tokens : (rest : List ℕ) → tokens_of (40 ∷ rest) ≡ Open ∷ tokens_of rest
+open_tokens : (rest : List ℕ) → tokens_in (40 ∷ rest) ≡ Open ∷ tokens_in rest
 open_tokens rest = ap (map token_of) (alone_piece 40 rest open-IsAlone)
 
-part-tokens : (x : Part) → tokens_of (part_text x) ≡ Word (part_text x) ∷ []
+part-tokens : (x : Part) → tokens_in (part_text x) ≡ Word (part_text x) ∷ []
 part-tokens ArgFirst = refl
 part-tokens ArgSecond = refl
 part-tokens RepFirst = refl
 part-tokens RepSecond = refl
 
-part_close : (x : Part) (rest : List ℕ) → tokens_of (part_text x ++ 41 ∷ rest) ≡ Word (part_text x) ∷ Close ∷ tokens_of rest
+part_close : (x : Part) (rest : List ℕ) → tokens_in (part_text x ++ 41 ∷ rest) ≡ Word (part_text x) ∷ Close ∷ tokens_in rest
 part_close x rest = one-Reads (part_text x) (Word (part_text x)) (part-tokens x) (41 ∷ rest) (alone-IsApart 41 rest close-IsAlone) ∙ ap (λ ts. Word (part_text x) ∷ ts) (close_tokens rest)
 
-beyond_open : (rest : List ℕ) → tokens_of (codes "beyond(" ++ rest) ≡ BeyondKey ∷ Open ∷ tokens_of rest
+beyond_open : (rest : List ℕ) → tokens_in (codes "beyond(" ++ rest) ≡ BeyondKey ∷ Open ∷ tokens_in rest
 beyond_open rest = ap (λ ts. BeyondKey ∷ ts) (open_tokens rest)
 
 seven_parts : (a b c d e f g rest : List ℕ) → a ++ b ++ c ++ d ++ e ++ f ++ g ++ rest ≡ a ++ (b ++ (c ++ (d ++ (e ++ (f ++ (g ++ rest))))))
@@ -98,7 +98,7 @@ seven_parts a b c d e f g rest = simp append_assoc
 
 beyond-Reads : (x y z : Part) → Reads (term_text (Beyond x y z)) (term_onto (Beyond x y z))
 beyond-Reads x y z rest apart =
-    ap tokens_of (seven_parts (codes "beyond(") (part_text x) (codes ", ") (part_text y) (codes ", ") (part_text z) (codes ")") rest)
+    ap tokens_in (seven_parts (codes "beyond(") (part_text x) (codes ", ") (part_text y) (codes ", ") (part_text z) (codes ")") rest)
     ∙ beyond_open (part_text x ++ 44 ∷ 32 ∷ (part_text y ++ 44 ∷ 32 ∷ (part_text z ++ 41 ∷ rest)))
     ∙ ap (λ ts. BeyondKey ∷ Open ∷ ts) (part_comma x (part_text y ++ 44 ∷ 32 ∷ (part_text z ++ 41 ∷ rest)))
     ∙ ap (λ ts. BeyondKey ∷ Open ∷ Word (part_text x) ∷ Comma ∷ ts) (part_comma y (part_text z ++ 41 ∷ rest))
@@ -117,17 +117,17 @@ three_parts : (a b c rest : List ℕ) → a ++ b ++ c ++ rest ≡ a ++ (b ++ (c 
 three_parts a b c rest = simp append_assoc
 
 -- two texts with a space, a sign and a space between them
-sign_between : (a sign b : List ℕ) (x y : List Token → List Token) (t : Token) → ((rest : List ℕ) → tokens_of (32 ∷ (sign ++ 32 ∷ rest)) ≡ t ∷ tokens_of rest)
+sign_between : (a sign b : List ℕ) (x y : List Token → List Token) (t : Token) → ((rest : List ℕ) → tokens_in (32 ∷ (sign ++ 32 ∷ rest)) ≡ t ∷ tokens_in rest)
     → Reads a x → Reads b y → Reads (a ++ (32 ∷ (sign ++ 32 ∷ [])) ++ b) (λ ts. x (t ∷ y ts))
 sign_between a sign b x y t e f g rest apart =
-    ap tokens_of (three_parts a (32 ∷ (sign ++ 32 ∷ [])) b rest)
+    ap tokens_in (three_parts a (32 ∷ (sign ++ 32 ∷ [])) b rest)
     ∙ f ((32 ∷ (sign ++ 32 ∷ [])) ++ (b ++ rest)) (space-IsApart ((sign ++ 32 ∷ []) ++ (b ++ rest)))
-    ∙ ap x (ap (λ text. tokens_of (32 ∷ text)) (append_assoc sign (32 ∷ []) (b ++ rest)) ∙ e (b ++ rest) ∙ ap (λ ts. t ∷ ts) (g rest apart))
+    ∙ ap x (ap (λ text. tokens_in (32 ∷ text)) (append_assoc sign (32 ∷ []) (b ++ rest)) ∙ e (b ++ rest) ∙ ap (λ ts. t ∷ ts) (g rest apart))
 
 group-Reads : (text : List ℕ) (x : List Token → List Token) → Reads text x → Reads (codes "(" ++ text ++ codes ")") (λ ts. Open ∷ x (Close ∷ ts))
 group-Reads text x h rest apart =
     open_tokens (text ++ 41 ∷ [] ++ rest)
-    ∙ ap (λ ts. Open ∷ ts) (ap tokens_of (append_assoc text (41 ∷ []) rest) ∙ h (41 ∷ rest) (alone-IsApart 41 rest close-IsAlone) ∙ ap x (close_tokens rest))
+    ∙ ap (λ ts. Open ∷ ts) (ap tokens_in (append_assoc text (41 ∷ []) rest) ∙ h (41 ∷ rest) (alone-IsApart 41 rest close-IsAlone) ∙ ap x (close_tokens rest))
 
 grouped-Reads : (b : Bool) (text : List ℕ) (x : List Token → List Token) → Reads text x → Reads (grouped b text) (grouped_onto b x)
 grouped-Reads true text x h = group-Reads text x h
@@ -154,5 +154,5 @@ condition-Reads kind (Or x y) h =
     (grouped-Reads (is_or y) (condition_text y) (condition_onto y) (condition-Reads kind y h.1))
 condition-Reads kind (Not x) h = not-Reads (grouped (is_and_or_or x) (condition_text x)) (grouped_onto (is_and_or_or x) (condition_onto x)) (grouped-Reads (is_and_or_or x) (condition_text x) (condition_onto x) (condition-Reads kind x h))
 
-pub condition-tokens : (kind : Kind) (c : Condition) → ArePrintable kind c → tokens_of (condition_text c) ≡ condition_onto c []
-condition-tokens kind c h = ap tokens_of (sym (append-nil (condition_text c))) ∙ condition-Reads kind c h [] none-IsApart
+pub condition-tokens : (kind : Kind) (c : Condition) → ArePrintable kind c → tokens_in (condition_text c) ≡ condition_onto c []
+condition-tokens kind c h = ap tokens_in (sym (append-nil (condition_text c))) ∙ condition-Reads kind c h [] none-IsApart

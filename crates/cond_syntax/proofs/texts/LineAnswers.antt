@@ -9,7 +9,7 @@ use Rattle.gx_base.specs.Conditions.{Condition}
 use Rattle.gx_base.specs.Kinds.{kind_number}
 use Rattle.gx_base.specs.Methods.{method_of}
 use Rattle.gx_base.specs.TableRows.{RowMap}
-use Rattle.cond_syntax.specs.Tokens.{Token, Word, TypeKey, Colon, tokens_of}
+use Rattle.cond_syntax.specs.Tokens.{Token, Word, TypeKey, Colon, tokens_in}
 use Rattle.cond_syntax.specs.WrittenConditions.{WrittenCondition, depth_of}
 use Rattle.cond_syntax.specs.Fronts.{front_of, IsOfForm, all_known}
 use Rattle.cond_syntax.proofs.machine.Machine.{Reading, Wrong, Cut, Whole, reading_of}
@@ -119,9 +119,9 @@ shape_of _ = of_none (λ name is. cc) (λ first second condition is. cc)
 
 pub data LineAnswer (wanted : List Kind) (before : SoFar) (line : List ℕ) : Type 0 where
   reads : (next : SoFar) → IsRead wanted before line next → LineAnswer wanted before line
-  faulty : (fault : Fault) → is_skipped line ≡ false → HasFault wanted before (tokens_of line) fault → LineAnswer wanted before line
+  faulty : (fault : Fault) → is_skipped line ≡ false → HasFault wanted before (tokens_in line) fault → LineAnswer wanted before line
 
-type_answer : (wanted : List Kind) (before : SoFar) (line name : List ℕ) → is_skipped line ≡ false → IsTypeLine (tokens_of line) name → LineAnswer wanted before line
+type_answer : (wanted : List Kind) (before : SoFar) (line name : List ℕ) → is_skipped line ≡ false → IsTypeLine (tokens_in line) name → LineAnswer wanted before line
 type_answer wanted Untyped line name seen is = elim (wanted_or_not wanted name) [
   | inl (kind, wants) ↦ reads (Typed kind map.empty) (table_text.type_line seen is wants)
   | inr none ↦ faulty table_text.UnknownName seen (table_text.unknown_kind is none)
@@ -160,7 +160,7 @@ readable_or_not kind ts (Whole tree) is = inl (whole_readable kind ts tree is)
 
 -- a row of known methods, of which no row has been read
 free_answer : (wanted : List Kind) (kind : Kind) (rows : RowMap) (line first second : List ℕ) (condition : List Token) (i j : ℕ) → is_skipped line ≡ false
-    → IsRowLine (tokens_of line) first second condition → AreMethods kind first second i j → all_known (kind_number kind) false (front_of condition) ≡ true
+    → IsRowLine (tokens_in line) first second condition → AreMethods kind first second i j → all_known (kind_number kind) false (front_of condition) ≡ true
     → map.get rows (i, j) ≡ None → IsReadable kind condition → LineAnswer wanted (Typed kind rows) line
 free_answer wanted kind rows line first second condition i j seen row methods known free readable = elim readable.answer [
   | inl deep ↦ faulty table_text.TooDeep seen (table_text.too_deep row methods known free deep)
@@ -169,7 +169,7 @@ free_answer wanted kind rows line first second condition i j seen row methods kn
 
 -- a row of known methods
 named_answer : (wanted : List Kind) (kind : Kind) (rows : RowMap) (line first second : List ℕ) (condition : List Token) (i j : ℕ) → is_skipped line ≡ false
-    → IsRowLine (tokens_of line) first second condition → AreMethods kind first second i j → IsReadable kind condition → LineAnswer wanted (Typed kind rows) line
+    → IsRowLine (tokens_in line) first second condition → AreMethods kind first second i j → IsReadable kind condition → LineAnswer wanted (Typed kind rows) line
 named_answer wanted kind rows line first second condition i j seen row methods readable =
     elim (cases_Bool (all_known (kind_number kind) false (front_of condition))) [
       | inr unknown ↦ faulty table_text.UnknownName seen (table_text.unknown_word row methods unknown)
@@ -184,10 +184,10 @@ no_row_form : (ts : List Token) (a b : List ℕ) (condition : List Token) → ts
 no_row_form ts a b condition is none first second other row = none (subst (λ (us : List Token). IsOfForm us) (row_line_condition row.is is) row.form)
 
 row_answer : (wanted : List Kind) (kind : Kind) (rows : RowMap) (line first second : List ℕ) (condition : List Token) → is_skipped line ≡ false
-    → tokens_of line ≡ Word first ∷ Word second ∷ Colon ∷ condition → LineAnswer wanted (Typed kind rows) line
+    → tokens_in line ≡ Word first ∷ Word second ∷ Colon ∷ condition → LineAnswer wanted (Typed kind rows) line
 row_answer wanted kind rows line first second condition seen is = elim (readable_or_not kind condition (reading_of condition) refl) [
   | inr none ↦ faulty table_text.Syntax seen
-      (table_text.no_form (λ name type_is. type_is_no_row type_is is) (no_row_form (tokens_of line) first second condition is none))
+      (table_text.no_form (λ name type_is. type_is_no_row type_is is) (no_row_form (tokens_in line) first second condition is none))
   | inl readable ↦ elim (methods_or_not kind first second) [
     | inl (i, j, methods) ↦ named_answer wanted kind rows line first second condition i j seen (record { is = is; form = readable.form }) methods readable
     | inr none ↦ faulty table_text.UnknownMethod seen (table_text.unknown_method (record { is = is; form = readable.form }) none)
@@ -196,7 +196,7 @@ row_answer wanted kind rows line first second condition seen is = elim (readable
 
 -- ---- of any line
 
-shape_answer : (wanted : List Kind) (before : SoFar) (line : List ℕ) → is_skipped line ≡ false → Shape (tokens_of line) → LineAnswer wanted before line
+shape_answer : (wanted : List Kind) (before : SoFar) (line : List ℕ) → is_skipped line ≡ false → Shape (tokens_in line) → LineAnswer wanted before line
 shape_answer wanted before line seen (of_type name is) = type_answer wanted before line name seen is
 shape_answer wanted Untyped line seen (of_row first second condition is) = faulty table_text.Syntax seen (table_text.no_type (λ name type_is. type_is_no_row type_is is))
 shape_answer wanted (Typed kind rows) line seen (of_row first second condition is) = row_answer wanted kind rows line first second condition seen is
@@ -208,5 +208,5 @@ shape_answer wanted (Typed kind rows) line seen (of_none no_type no_row) =
 pub line_answer : (wanted : List Kind) (before : SoFar) (line : List ℕ) → LineAnswer wanted before line
 line_answer wanted before line = elim (cases_Bool (is_skipped line)) [
   | inl skips ↦ reads before (table_text.skipped skips)
-  | inr seen ↦ shape_answer wanted before line seen (shape_of (tokens_of line))
+  | inr seen ↦ shape_answer wanted before line seen (shape_of (tokens_in line))
 ]

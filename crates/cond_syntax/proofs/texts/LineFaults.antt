@@ -7,7 +7,7 @@ use Rattle.gx_base.specs.Conditions.{Condition}
 use Rattle.gx_base.specs.Kinds.{kind_number}
 use Rattle.gx_base.specs.Methods.{method_of}
 use Rattle.gx_base.specs.TableRows.{RowMap}
-use Rattle.cond_syntax.specs.Tokens.{Token, Word, Colon, tokens_of}
+use Rattle.cond_syntax.specs.Tokens.{Token, Word, Colon, tokens_in}
 use Rattle.cond_syntax.specs.WrittenConditions.{depth_of}
 use Rattle.cond_syntax.specs.Fronts.{front_of, IsOfForm, all_known}
 use Rattle.cond_syntax.specs.TableTexts as table_text
@@ -131,8 +131,8 @@ is_shallow {ts} spells (inr (tree, spelled, deep)) =
     let depth : depth_of spells.tree ≤ 64 = spells.depth in
     omega arith
 
-is_free : (rows : RowMap) {i j k l : ℕ} {row : Condition} → i ≡ k → j ≡ l → map.get rows (i, j) ≡ None → map.get rows (k, l) ≡ Some row → ⊥
-is_free rows {j} {k} first second free row =
+absent_not_there : (rows : RowMap) {i j k l : ℕ} {row : Condition} → i ≡ k → j ≡ l → map.get rows (i, j) ≡ None → map.get rows (k, l) ≡ Some row → ⊥
+absent_not_there rows {j} {k} first second free row =
     let differ : None ≡ Some _ = sym free ∙ ap (λ i. map.get rows (i, j)) first ∙ ap (λ m. map.get rows (k, m)) second ∙ row in
     cc
 
@@ -146,11 +146,11 @@ row_reads (table_text.unknown_word line methods' known) is methods spells free =
 row_reads (table_text.second_type line wants) is methods spells free = type_is_no_row line is
 row_reads {rows} (table_text.second_row line methods' known row) is methods spells free =
     let along = methods_along (row_line_first is line.is) (row_line_second is line.is) methods in
-    is_free rows (same_first along methods') (same_second along methods') free row
+    absent_not_there rows (same_first along methods') (same_second along methods') free row
 row_reads (table_text.too_deep line methods' known row deep) is methods spells free = is_shallow (spells_along (row_line_condition is line.is) spells) deep
 
 pub read_has_no_fault : {wanted : List Kind} {before next : SoFar} {line : List ℕ} {fault : Fault} → IsRead wanted before line next → is_skipped line ≡ false
-    → HasFault wanted before (tokens_of line) fault → ⊥
+    → HasFault wanted before (tokens_in line) fault → ⊥
 read_has_no_fault (table_text.skipped skips) reads fault = cc
 read_has_no_fault (table_text.type_line skips is wants) reads fault = untyped_reads fault is wants
 read_has_no_fault (table_text.row skips is methods spells free) reads fault = row_reads fault is methods spells free

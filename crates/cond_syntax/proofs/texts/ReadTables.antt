@@ -12,7 +12,7 @@ use Rattle.gx_base.specs.Methods.{first_method, words_of, is_method, method_of}
 use Rattle.gx_base.specs.TableRows.{RowMap, pair_cmp, row_of, row_or_false}
 use Rattle.gx_base.proofs.CallerLemmas.{pair_cmp_total, same_pair, same_pair-is}
 use Rattle.text_lines.specs.Lines.{lines_of}
-use Rattle.cond_syntax.specs.Tokens.{Token, Word, Colon, tokens_of}
+use Rattle.cond_syntax.specs.Tokens.{Token, Word, Colon, tokens_in}
 use Rattle.cond_syntax.specs.TableTexts.{AreMethods, Spells, SoFar, Untyped, Typed, IsRead, skipped, type_line, row, AreRead, IsTableText}
 use Rattle.cond_syntax.proofs.grammar.SmallNumbers.{AreSmall, tokens-AreSmall}
 use Rattle.cond_syntax.proofs.printing.PrintableTrees.{spelled-printable}
@@ -80,10 +80,10 @@ abbrev HasOwnRows : SoFar → Type 0
 HasOwnRows Untyped = Unit {0}
 HasOwnRows (Typed kind rows) = HasKindRows kind rows
 
-row-tokens : (line : List ℕ) (first second : List ℕ) (ts : List Token) → tokens_of line ≡ Word first ∷ Word second ∷ Colon ∷ ts → AreSmall ts
+row-tokens : (line : List ℕ) (first second : List ℕ) (ts : List Token) → tokens_in line ≡ Word first ∷ Word second ∷ Colon ∷ ts → AreSmall ts
 row-tokens line first second ts e = let small : AreSmall (Word first ∷ Word second ∷ Colon ∷ ts) = subst AreSmall e (tokens-AreSmall line) in small.1.1.1
 
-read-kind_row : (kind : Kind) (line first second : List ℕ) (ts : List Token) (i j : ℕ) (condition : Condition) → tokens_of line ≡ Word first ∷ Word second ∷ Colon ∷ ts
+read-kind_row : (kind : Kind) (line first second : List ℕ) (ts : List Token) (i j : ℕ) (condition : Condition) → tokens_in line ≡ Word first ∷ Word second ∷ Colon ∷ ts
     → AreMethods kind first second i j → Spells kind ts condition → IsKindRow kind i j condition
 read-kind_row kind line first second ts i j condition is methods spells = record {
   first_is = named-is_method (kind_number kind) first i methods.first_is;

@@ -4,7 +4,7 @@ use Rattle.std.proofs.Common.{sym, ◌∙◌, ap, subst, arith}
 use Rattle.gx_base.specs.declared.kinds.Kind.{Kind}
 use Rattle.gx_base.specs.TableRows.{RowMap}
 use Rattle.text_lines.specs.Lines.{lines_of}
-use Rattle.cond_syntax.specs.Tokens.{tokens_of}
+use Rattle.cond_syntax.specs.Tokens.{tokens_in}
 use Rattle.cond_syntax.specs.TableTexts.{SoFar, Untyped, Typed, AreRead, IsTableText, Fault, HasFault, IsFaultHere, IsFirstFault}
 use Rattle.cond_syntax.proofs.texts.LineReading.{read_once, all_read_once}
 use Rattle.cond_syntax.proofs.texts.LineFaults.{one_fault, read_has_no_fault}
@@ -31,8 +31,8 @@ fault_along : {wanted : List Kind} {before start : SoFar} {lines : List (List �
 fault_along {wanted} {lines} {number} {fault} same = let Here : SoFar → Type 0 = λ s. FaultAt wanted s lines number fault in subst Here same
 
 line_fault : (wanted : List Kind) (before : SoFar) (line : List ℕ) (lines : List (List ℕ)) (fault : Fault) → FaultAt wanted before (line ∷ lines) zero fault
-    → HasFault wanted before (tokens_of line) fault
-line_fault wanted before line lines fault at = let Here : SoFar → Type 0 = λ s. HasFault wanted s (tokens_of line) fault in subst Here (sym at.earlier) at.here.1
+    → HasFault wanted before (tokens_in line) fault
+line_fault wanted before line lines fault at = let Here : SoFar → Type 0 = λ s. HasFault wanted s (tokens_in line) fault in subst Here (sym at.earlier) at.here.1
 
 -- the fault after one line less
 later_fault : (wanted : List Kind) (before : SoFar) (line : List ℕ) (lines : List (List ℕ)) (number : ℕ) (fault : Fault) (at : FaultAt wanted before (line ∷ lines) (suc number) fault)
@@ -47,7 +47,7 @@ same_place wanted before [] zero zero fault other one two = (refl, one.here.1 �
 same_place wanted before [] zero (suc m) fault other one two = let within : suc m ≤ zero = two.within in absurd (omega arith)
 same_place wanted before [] (suc n) m fault other one two = let within : suc n ≤ zero = one.within in absurd (omega arith)
 same_place wanted before (line ∷ lines) zero zero fault other one two =
-    (refl, one_fault wanted before (tokens_of line) fault other (line_fault wanted before line lines fault one) (line_fault wanted before line lines other two))
+    (refl, one_fault wanted before (tokens_in line) fault other (line_fault wanted before line lines fault one) (line_fault wanted before line lines other two))
 same_place wanted before (line ∷ lines) zero (suc m) fault other one two =
     absurd (read_has_no_fault two.earlier.1 one.here.0 (line_fault wanted before line lines fault one))
 same_place wanted before (line ∷ lines) (suc n) zero fault other one two =

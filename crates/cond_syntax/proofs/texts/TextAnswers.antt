@@ -4,7 +4,7 @@ use Rattle.std.proofs.Common.{subst, inl, inr, arith}
 use Rattle.gx_base.specs.declared.kinds.Kind.{Kind}
 use Rattle.gx_base.specs.TableRows.{RowMap}
 use Rattle.text_lines.specs.Lines.{lines_of}
-use Rattle.cond_syntax.specs.Tokens.{tokens_of}
+use Rattle.cond_syntax.specs.Tokens.{tokens_in}
 use Rattle.cond_syntax.specs.TableTexts.{is_skipped, SoFar, Untyped, Typed, IsRead, AreRead, IsTableText, Fault, Syntax, HasFault, IsFirstFault}
 use Rattle.cond_syntax.proofs.texts.TableLemmas.{FaultAt}
 use Rattle.cond_syntax.proofs.texts.LineAnswers.{reads, faulty, line_answer}
@@ -26,7 +26,7 @@ answer_later : (wanted : List Kind) (before next : SoFar) (line : List ℕ) (lin
 answer_later wanted before next line lines is (inl (kind, rows, are)) = inl (kind, rows, (next, is, are))
 answer_later wanted before next line lines is (inr (number, fault, at)) = inr (suc number, fault, fault_later wanted before next line lines number fault is at)
 
-fault_here : (wanted : List Kind) (before : SoFar) (line : List ℕ) (lines : List (List ℕ)) (fault : Fault) → is_skipped line ≡ false → HasFault wanted before (tokens_of line) fault
+fault_here : (wanted : List Kind) (before : SoFar) (line : List ℕ) (lines : List (List ℕ)) (fault : Fault) → is_skipped line ≡ false → HasFault wanted before (tokens_in line) fault
     → FaultAt wanted before (line ∷ lines) zero fault
 fault_here wanted before line lines fault seen has = record { within = omega arith; after = before; earlier = refl; here = (seen, has) }
 

@@ -8,7 +8,7 @@ use Rattle.std.specs.Char.{is_ascii_digit, is_ascii_alphabetic}
 use Rattle.text_lines.specs.Fields.{is_blank}
 use Rattle.text_lines.specs.Numbers.{all_digits}
 use Rattle.cond_syntax.specs.Pieces.{goes_on, after_piece, pieces_from, pieces_of}
-use Rattle.cond_syntax.specs.Tokens.{token_of, tokens_of}
+use Rattle.cond_syntax.specs.Tokens.{token_of, tokens_in}
 
 -- no piece goes on into these signs
 abbrev pub IsApart : List ℕ → Type 0
@@ -74,7 +74,7 @@ pieces-append piece (b ∷ bs) rest h =
     ]
 
 -- and so do the tokens
-pub tokens-append : (text rest : List ℕ) → IsApart rest → tokens_of (text ++ rest) ≡ tokens_of text ++ tokens_of rest
+pub tokens-append : (text rest : List ℕ) → IsApart rest → tokens_in (text ++ rest) ≡ tokens_in text ++ tokens_in rest
 tokens-append text rest h = ap (map token_of) (pieces-append [] text rest h) ∙ map-append token_of (pieces_of text) (pieces_of rest)
 
 -- ---- digits

@@ -7,7 +7,7 @@ use Rattle.cond_syntax.specs.WrittenConditions.{WrittenCondition}
 use Rattle.cond_text.specs.CodeTokens.{token_seen}
 use Rattle.cond_text.specs.Comparisons.{term_begun}
 use Rattle.cond_text.specs.Drafts.{either_of}
-use Rattle.cond_text.specs.Levels.{IsLevel, IsConjunction, IsWhole, LeadsLevel, LeadsConjunction, outside, or_frames}
+use Rattle.cond_text.specs.Levels.{IsLevel, IsDraftConjunction, IsWhole, LeadsLevel, LeadsConjunction, outside, or_frames}
 use Rattle.cond_text.specs.Readers.{AreOutside, IsReaderPlace, HasReached, IsTaken, IsEnded, IsReadWhole, unit_begun}
 use Rattle.cond_text.specs.Sources.{reading, Stops, IsStoppedAt, IsAtEnd}
 use Rattle.gx_base.specs.Kinds.{kind_number}
@@ -80,7 +80,7 @@ ended_open kind reader conjunction state read is some =
 
 -- where none is, the conjunction ends the whole
 pub ended_closed : (kind : ℕ) (reader : Reader) (conjunction : Conjunction) (state : State) (draft : Draft) → HasReached kind reader state → reader.place ≡ Done conjunction → reader.outer.items ≡ []
-    → ((base : Option (List Frame)) (last : WrittenCondition) (frames : List Frame) → IsConjunction kind conjunction base last frames → IsWhole kind base last frames draft) → IsEnded kind (whole state) (Ok draft)
+    → ((base : Option (List Frame)) (last : WrittenCondition) (frames : List Frame) → IsDraftConjunction kind conjunction base last frames → IsWhole kind base last frames draft) → IsEnded kind (whole state) (Ok draft)
 ended_closed kind reader conjunction state draft read is closed ends =
     let done = place_done kind read.base reader.place state conjunction read.place is in
     let none = AreOutside-none kind reader.outer.items read.base closed read.outer in

@@ -2,7 +2,7 @@
 use Rattle.std.proofs.Common.{◌≡◌, Bool, true, false, ◌&&◌, List, [], ◌∷◌, Option, Some, None, refl, ap, ◌∙◌, arith}
 use Rattle.gx_base.specs.Kinds.{kind_number}
 use Rattle.cond_syntax.specs.Tokens as plain
-use Rattle.cond_syntax.specs.Tokens.{tokens_of}
+use Rattle.cond_syntax.specs.Tokens.{tokens_in}
 use Rattle.cond_text.specs.Machine as machine
 use Rattle.cond_text.specs.Machine.{State, run, step, ended, whole, whole_or_wrong}
 use Rattle.cond_syntax.specs.Fronts.{is_cut_from, all_known}
@@ -15,7 +15,7 @@ use Rattle.cond_text.proofs.reading.TokenLemmas.{front_from-next, is_cut_from-ne
 
 -- the second source is the first after a token
 pub record IsAfter (old : Source) (t : plain.Token) (new : Source) : Type 0 where
-  pub token : tokens_of old.rest.now ≡ t ∷ tokens_of new.rest.now
+  pub token : tokens_in old.rest.now ≡ t ∷ tokens_in new.rest.now
   pub opened : opened_after old.opened t ≡ Some new.opened
   pub kind : new.kind ≡ old.kind
   pub inside : new.inside ≡ inside_after old.inside t
@@ -24,8 +24,8 @@ pub record IsAfter (old : Source) (t : plain.Token) (new : Source) : Type 0 wher
 pub reading-after : (old new : Source) (t : plain.Token) → IsAfter old t new → (state : State) → reading (Some state) old ≡ reading (step state t) new
 unfolding reading
 reading-after old new t after state =
-    let front : tokens_ahead old ≡ t ∷ tokens_ahead new = rw after.token (front_from-next old.opened new.opened t (tokens_of new.rest.now) after.opened) in
-    let cut : is_cut_from old.opened (tokens_of old.rest.now) ≡ is_cut_from new.opened (tokens_of new.rest.now) = rw after.token (is_cut_from-next old.opened new.opened t (tokens_of new.rest.now) after.opened) in
+    let front : tokens_ahead old ≡ t ∷ tokens_ahead new = rw after.token (front_from-next old.opened new.opened t (tokens_in new.rest.now) after.opened) in
+    let cut : is_cut_from old.opened (tokens_in old.rest.now) ≡ is_cut_from new.opened (tokens_in new.rest.now) = rw after.token (is_cut_from-next old.opened new.opened t (tokens_in new.rest.now) after.opened) in
     rw (front, cut)
 
 and-turned : (a b c : Bool) → a && (b && c) ≡ (b && a) && c
@@ -37,7 +37,7 @@ and-turned false false c = refl
 pub words_known-after : (old new : Source) (t : plain.Token) → IsAfter old t new → words_known old ≡ words_known new
 unfolding words_known
 words_known-after old new t after =
-    let front : tokens_ahead old ≡ t ∷ tokens_ahead new = rw after.token (front_from-next old.opened new.opened t (tokens_of new.rest.now) after.opened) in
+    let front : tokens_ahead old ≡ t ∷ tokens_ahead new = rw after.token (front_from-next old.opened new.opened t (tokens_in new.rest.now) after.opened) in
     let next = all_known-next (kind_number old.kind) old.inside t (tokens_ahead new) in
     let turned = and-turned old.all_known (knows (kind_number old.kind) old.inside t) (all_known (kind_number old.kind) (inside_after old.inside t) (tokens_ahead new)) in
     rw (front, next, turned, after.all_known, after.inside, after.kind)
@@ -51,17 +51,17 @@ pub words_known-end : (source : Source) → tokens_ahead source ≡ [] → words
 unfolding words_known
 words_known-end source ahead = rw ahead (and-true source.all_known)
 
-pub tokens_ahead-end : (source : Source) → tokens_of source.rest.now ≡ [] → tokens_ahead source ≡ []
+pub tokens_ahead-end : (source : Source) → tokens_in source.rest.now ≡ [] → tokens_ahead source ≡ []
 tokens_ahead-end source is = rw is
 
-pub reading-end : (source : Source) → tokens_of source.rest.now ≡ [] → (state : State) → reading (Some state) source ≡ whole_or_wrong (whole state)
+pub reading-end : (source : Source) → tokens_in source.rest.now ≡ [] → (state : State) → reading (Some state) source ≡ whole_or_wrong (whole state)
 unfolding reading
 reading-end source is state = rw is
 
-pub tokens_ahead-cut : (source : Source) (t : plain.Token) (ts : List plain.Token) → tokens_of source.rest.now ≡ t ∷ ts → opened_after source.opened t ≡ None → tokens_ahead source ≡ []
+pub tokens_ahead-cut : (source : Source) (t : plain.Token) (ts : List plain.Token) → tokens_in source.rest.now ≡ t ∷ ts → opened_after source.opened t ≡ None → tokens_ahead source ≡ []
 tokens_ahead-cut source t ts is cut = rw is (front_from-cut source.opened t ts cut)
 
-pub reading-cut : (source : Source) (t : plain.Token) (ts : List plain.Token) → tokens_of source.rest.now ≡ t ∷ ts → opened_after source.opened t ≡ None → (state : State) → reading (Some state) source ≡ machine.Cut
+pub reading-cut : (source : Source) (t : plain.Token) (ts : List plain.Token) → tokens_in source.rest.now ≡ t ∷ ts → opened_after source.opened t ≡ None → (state : State) → reading (Some state) source ≡ machine.Cut
 unfolding reading
 reading-cut source t ts is cut state = rw (is, front_from-cut source.opened t ts cut, is_cut_from-cut source.opened t ts cut)
 

@@ -2,10 +2,10 @@
 use Rattle.std.proofs.Common.{◌≡◌, ◌≢◌, ℕ, zero, suc, ◌+◌, ◌-◌, ◌≤◌, false, List, [], ◌∷◌, ◌++◌, length, take, drop, refl, sym, ap, subst, ◌∙◌, arith, add-one, length-drop}
 use Rattle.gx_base.specs.declared.kinds.Kind.{Kind}
 use Rattle.text_lines.specs.Lines.{lines_of}
-use Rattle.cond_syntax.specs.Tokens.{tokens_of}
+use Rattle.cond_syntax.specs.Tokens.{tokens_in}
 use Rattle.cond_syntax.specs.TableTexts as table
 use Rattle.cond_syntax.specs.TableTexts.{Fault, SoFar, Untyped, IsRead, AreRead, HasFault, IsFaultHere, IsFirstFault, is_skipped}
-use Rattle.cond_text.specs.TextFaults.{IsTold}
+use Rattle.cond_text.specs.TextFaults.{IsFaultTold}
 use Rattle.cond_text.specs.LineAnswers.{IsRefused, told_at}
 use Rattle.cond_text.specs.declared.tables.line_faults.LineFault.{LineFault}
 use Rattle.cond_text.specs.declared.tables.line_faults.LineFault.TheVariants.{Syntax, UnknownMethod, UnknownName, Twice, TooDeep, NoMemory}
@@ -58,11 +58,11 @@ one_more wanted bytes count rest line after reached next have first read =
     }
 
 fault_here : (wanted : List Kind) (reached : SoFar) (lines : List (List ℕ)) (line : List ℕ) (others : List (List ℕ)) (fault : Fault)
-    → lines ≡ line ∷ others → is_skipped line ≡ false → HasFault wanted reached (tokens_of line) fault → IsFaultHere wanted reached lines fault
+    → lines ≡ line ∷ others → is_skipped line ≡ false → HasFault wanted reached (tokens_in line) fault → IsFaultHere wanted reached lines fault
 fault_here wanted reached lines line others fault e some has = subst (λ (l : List (List ℕ)). IsFaultHere wanted reached l fault) (sym e) (some, has)
 
 fault_next : (wanted : List Kind) (bytes : List ℕ) (count : ℕ) (rest line after : List ℕ) (reached : SoFar) (fault : Fault)
-    → HaveRead wanted bytes count rest reached → lines_of rest ≡ line ∷ lines_of after → is_skipped line ≡ false → HasFault wanted reached (tokens_of line) fault
+    → HaveRead wanted bytes count rest reached → lines_of rest ≡ line ∷ lines_of after → is_skipped line ≡ false → HasFault wanted reached (tokens_in line) fault
     → IsFirstFault wanted bytes (count + 1) fault
 fault_next wanted bytes count rest line after reached fault have first some has =
     let front : drop count (lines_of bytes) ≡ line ∷ lines_of after = have.left ∙ first in
@@ -84,7 +84,7 @@ one_line_more wanted bytes count rest line after reached have first = short (lin
 -- what is refused at the next line is told with its number
 pub refused_next : (wanted : List Kind) (bytes : List ℕ) (count : ℕ) (rest line after : List ℕ) (reached : SoFar) (fault : LineFault)
     → HaveRead wanted bytes count rest reached → lines_of rest ≡ line ∷ lines_of after → (fault ≢ NoMemory → is_skipped line ≡ false)
-    → IsRefused wanted reached (tokens_of line) fault → IsTold (IsFirstFault wanted bytes) (told_at (count + 1) fault)
+    → IsRefused wanted reached (tokens_in line) fault → IsFaultTold (IsFirstFault wanted bytes) (told_at (count + 1) fault)
 refused_next wanted bytes count rest line after reached Syntax have first some has = fault_next wanted bytes count rest line after reached table.Syntax have first (some (λ e. cc)) has
 refused_next wanted bytes count rest line after reached UnknownMethod have first some has = fault_next wanted bytes count rest line after reached table.UnknownMethod have first (some (λ e. cc)) has
 refused_next wanted bytes count rest line after reached UnknownName have first some has = fault_next wanted bytes count rest line after reached table.UnknownName have first (some (λ e. cc)) has

@@ -4,13 +4,13 @@ use Rattle.gx_base.specs.declared.kinds.Kind.{Kind}
 use Rattle.gx_base.specs.TableRows.{RowMap}
 use Rattle.cond_syntax.specs.TableTexts as table
 use Rattle.cond_syntax.specs.TableTexts.{Fault, IsTableText, IsFirstFault}
-use Rattle.cond_text.specs.TextFaults.{IsTold}
+use Rattle.cond_text.specs.TextFaults.{IsFaultTold}
 use Rattle.cond_text.specs.declared.faults.TextFault.{TextFault}
 use Rattle.cond_text.specs.declared.faults.TextFault.TheVariants.{Syntax, UnknownMethod, UnknownName, Twice, TooDeep, NoMemory}
 use Rattle.cond_syntax.proofs.CallerLemmas.{same_table, no_fault_of_a_table, same_fault}
 
 -- a text with a table is refused for want of memory alone
-pub told_of_table : (wanted : List Kind) (bytes : List ℕ) (refused : TextFault) → IsTold (IsFirstFault wanted bytes) refused
+pub told_of_table : (wanted : List Kind) (bytes : List ℕ) (refused : TextFault) → IsFaultTold (IsFirstFault wanted bytes) refused
     → (kind : Kind) (rows : RowMap) → IsTableText wanted bytes kind rows → refused ≡ NoMemory
 told_of_table wanted bytes (Syntax line) told kind rows is = absurd (no_fault_of_a_table wanted bytes kind rows line table.Syntax is told)
 told_of_table wanted bytes (UnknownMethod line) told kind rows is = absurd (no_fault_of_a_table wanted bytes kind rows line table.UnknownMethod is told)
@@ -20,8 +20,8 @@ told_of_table wanted bytes (TooDeep line) told kind rows is = absurd (no_fault_o
 told_of_table wanted bytes NoMemory told kind rows is = refl
 
 -- a text with a first fault is refused for that one, or for want of memory
-pub told_of_fault : (wanted : List Kind) (bytes : List ℕ) (refused : TextFault) → IsTold (IsFirstFault wanted bytes) refused
-    → (line : ℕ) (fault : Fault) → IsFirstFault wanted bytes line fault → IsTold (λ k f. (k ≡ line) × (f ≡ fault)) refused
+pub told_of_fault : (wanted : List Kind) (bytes : List ℕ) (refused : TextFault) → IsFaultTold (IsFirstFault wanted bytes) refused
+    → (line : ℕ) (fault : Fault) → IsFirstFault wanted bytes line fault → IsFaultTold (λ k f. (k ≡ line) × (f ≡ fault)) refused
 told_of_fault wanted bytes (Syntax k) told line fault is = same_fault wanted bytes k line table.Syntax fault told is
 told_of_fault wanted bytes (UnknownMethod k) told line fault is = same_fault wanted bytes k line table.UnknownMethod fault told is
 told_of_fault wanted bytes (UnknownName k) told line fault is = same_fault wanted bytes k line table.UnknownName fault told is

@@ -5,7 +5,7 @@ use Rattle.gx_base.specs.declared.kinds.Kind.{Kind}
 use Rattle.gx_base.specs.Kinds.{kind_number}
 use Rattle.gx_base.specs.Conditions.{Condition}
 use Rattle.gx_base.specs.TableRows.{RowMap}
-use Rattle.cond_syntax.specs.Tokens.{Token, Word, TypeKey, Colon, tokens_of}
+use Rattle.cond_syntax.specs.Tokens.{Token, Word, TypeKey, Colon, tokens_in}
 use Rattle.cond_syntax.specs.Fronts.{front_of, IsOfForm, all_known}
 use Rattle.cond_syntax.specs.TableTexts as table
 use Rattle.cond_syntax.specs.TableTexts.{SoFar, Untyped, Typed, HasFault, IsTypeLine, IsRowLine, IsWanted, AreMethods, IsTooDeep, Spells, IsRead, is_skipped, kind_named, type_line, row, no_type, no_form, unknown_method, unknown_kind, unknown_word, second_type, second_row, too_deep}
@@ -87,10 +87,10 @@ no_line wanted (Typed kind rows) ts none = no_form none.0 (λ first second condi
 -- ---- lines without a fault
 
 pub first_kind : (wanted : List Kind) (kind : Kind) (line name : List ℕ) → Some kind ≡ kind_named name → Contains wanted kind → is_skipped line ≡ false
-    → IsTypeLine (tokens_of line) name → IsRead wanted Untyped line (Typed kind map.empty)
+    → IsTypeLine (tokens_in line) name → IsRead wanted Untyped line (Typed kind map.empty)
 first_kind wanted kind line name named wants some is = type_line some is (record { named = sym named; wants = wants })
 
 pub next_row : (wanted : List Kind) (kind : Kind) (rows : RowMap) (line first second : List ℕ) (ts : List Token) (i j : ℕ) (condition : Condition)
     → AreMethods kind first second i j → Spells kind ts condition → map.get rows (i, j) ≡ None → is_skipped line ≡ false
-    → BeginsRow (tokens_of line) first second ts → IsRead wanted (Typed kind rows) line (Typed kind (map.insert rows (i, j) condition))
+    → BeginsRow (tokens_in line) first second ts → IsRead wanted (Typed kind rows) line (Typed kind (map.insert rows (i, j) condition))
 next_row wanted kind rows line first second ts i j condition methods spells free some begins = row some begins methods spells free

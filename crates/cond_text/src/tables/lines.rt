@@ -2,7 +2,7 @@
 
 ghost use Rattle.std.specs.Prelude.{◌≡◌, ◌∷◌};
 ghost use Rattle.cond_syntax.specs.Tokens as plain;
-ghost use Rattle.cond_syntax.specs.Tokens.{tokens_of};
+ghost use Rattle.cond_syntax.specs.Tokens.{tokens_in};
 ghost use Rattle.cond_syntax.specs.TableTexts.{is_skipped};
 ghost use Rattle.cond_text.specs.LineForms.{Says};
 
@@ -34,7 +34,7 @@ pub(super) fn is_skipped(line: &[u8]) -> bool
 
 /// What a line says.
 pub(super) fn said_by(line: &[u8]) -> Said<'_>
-    ensures { Says (tokens_of line.now) result }
+    ensures { Says (tokens_in line.now) result }
 {
     match next_token(line) {
         Some((TextToken::TypeKey, rest)) => said_by_type(rest),
@@ -45,7 +45,7 @@ pub(super) fn said_by(line: &[u8]) -> Said<'_>
 
 /// What a line says that begins with `type` and goes on with this text.
 fn said_by_type(rest: &[u8]) -> Said<'_>
-    ensures { Says (plain.TypeKey ∷ tokens_of rest.now) result }
+    ensures { Says (plain.TypeKey ∷ tokens_in rest.now) result }
 {
     let Some((TextToken::Word(name), after)) = next_token(rest) else {
         return Said::Other;
@@ -58,7 +58,7 @@ fn said_by_type(rest: &[u8]) -> Said<'_>
 
 /// What a line says that begins with a word and goes on with this text.
 fn said_by_row<'a>(first: &'a [u8], rest: &'a [u8]) -> Said<'a>
-    ensures { Says (plain.Word first.now ∷ tokens_of rest.now) result }
+    ensures { Says (plain.Word first.now ∷ tokens_in rest.now) result }
 {
     let Some((TextToken::Word(second), after)) = next_token(rest) else {
         return Said::Other;

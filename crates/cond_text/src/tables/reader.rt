@@ -1,7 +1,7 @@
 //! Reading a table's text from line to line.
 
 ghost use Rattle.std.specs.Prelude.{◌≡◌, ◌≢◌, ◌↔◌, ℕ, List, false, IsTrue, IfErr, OnOk, Contains};
-ghost use Rattle.cond_syntax.specs.Tokens.{Token, tokens_of};
+ghost use Rattle.cond_syntax.specs.Tokens.{Token, tokens_in};
 ghost use Rattle.cond_syntax.specs.TableTexts.{is_skipped, IsTypeLine, IsRead};
 ghost use Rattle.cond_text.specs.LineForms.{BeginsRow};
 ghost use Rattle.cond_text.specs.LineAnswers.{so_far, IsRefused};
@@ -32,7 +32,7 @@ impl Reader {
     ) -> Result<(), LineFault>
         ensures read { OnOk result (IsRead wanted.now (so_far self.old) line.now (so_far self.new)) }
         ensures skipped { IfErr result (λ fault. fault ≢ refused.NoMemory → is_skipped line.now ≡ false) }
-        ensures fault { IfErr result (IsRefused wanted.now (so_far self.old) (tokens_of line.now)) }
+        ensures fault { IfErr result (IsRefused wanted.now (so_far self.old) (tokens_in line.now)) }
     {
         if is_skipped(line) {
             return Ok(());
@@ -46,7 +46,7 @@ impl Reader {
 
     /// Reads a `type` line with a name.
     fn read_type(&mut self, alloc: Global, wanted: &[Kind], name: &[u8]) -> Result<(), LineFault>
-        ensures read { OnOk result ((line : List ℕ) → is_skipped line ≡ false → IsTypeLine (tokens_of line) name.now → IsRead wanted.now (so_far self.old) line (so_far self.new)) }
+        ensures read { OnOk result ((line : List ℕ) → is_skipped line ≡ false → IsTypeLine (tokens_in line) name.now → IsRead wanted.now (so_far self.old) line (so_far self.new)) }
         ensures fault { IfErr result (λ fault. (ts : List Token) → IsTypeLine ts name.now → IsRefused wanted.now (so_far self.old) ts fault) }
     {
         let Some(kind) = kind_named(name) else {
@@ -72,8 +72,8 @@ impl Reader {
         second: &[u8],
         text: &[u8],
     ) -> Result<(), LineFault>
-        ensures read { OnOk result ((wanted : List Kind) (line : List ℕ) → is_skipped line ≡ false → BeginsRow (tokens_of line) first.now second.now (tokens_of text.now) → IsRead wanted (so_far self.old) line (so_far self.new)) }
-        ensures fault { IfErr result (λ fault. (wanted : List Kind) (ts : List Token) → BeginsRow ts first.now second.now (tokens_of text.now) → IsRefused wanted (so_far self.old) ts fault) }
+        ensures read { OnOk result ((wanted : List Kind) (line : List ℕ) → is_skipped line ≡ false → BeginsRow (tokens_in line) first.now second.now (tokens_in text.now) → IsRead wanted (so_far self.old) line (so_far self.new)) }
+        ensures fault { IfErr result (λ fault. (wanted : List Kind) (ts : List Token) → BeginsRow ts first.now second.now (tokens_in text.now) → IsRefused wanted (so_far self.old) ts fault) }
     {
         match self {
             Reader::Untyped => Err(LineFault::Syntax),

@@ -26,7 +26,7 @@ impl RowLines {
     ghost use Rattle.std.specs.Prelude.{List, false, None, OnOk};
     ghost use Rattle.gx_base.specs.declared.kinds.Kind as kinds;
     ghost use Rattle.gx_base.specs.Conditions.{condition_of};
-    ghost use Rattle.cond_syntax.specs.Tokens.{Token, tokens_of};
+    ghost use Rattle.cond_syntax.specs.Tokens.{Token, tokens_in};
     ghost use Rattle.cond_syntax.specs.TableTexts.{Typed, is_skipped, IsRead};
     ghost use Rattle.cond_text.specs.LineForms.{BeginsRow};
     ghost use Rattle.cond_text.specs.LineAnswers.{IsRefused, IsNoPlace};
@@ -51,8 +51,8 @@ impl RowLines {
         second: &[u8],
         text: &[u8],
     ) -> Result<(), LineFault>
-        ensures read { OnOk result ((wanted : List kinds.Kind) (line : List ℕ) → is_skipped line ≡ false → BeginsRow (tokens_of line) first.now second.now (tokens_of text.now) → IsRead wanted (Typed self.old.kind self.old.table) line (Typed self.new.kind self.new.table)) }
-        ensures fault { IfErr result (λ fault. (wanted : List kinds.Kind) (ts : List Token) → BeginsRow ts first.now second.now (tokens_of text.now) → IsRefused wanted (Typed self.old.kind self.old.table) ts fault) }
+        ensures read { OnOk result ((wanted : List kinds.Kind) (line : List ℕ) → is_skipped line ≡ false → BeginsRow (tokens_in line) first.now second.now (tokens_in text.now) → IsRead wanted (Typed self.old.kind self.old.table) line (Typed self.new.kind self.new.table)) }
+        ensures fault { IfErr result (λ fault. (wanted : List kinds.Kind) (ts : List Token) → BeginsRow ts first.now second.now (tokens_in text.now) → IsRefused wanted (Typed self.old.kind self.old.table) ts fault) }
     {
         match read_condition(alloc, self.kind, text)? {
             Found::Malformed => Err(LineFault::Syntax),

@@ -6,7 +6,7 @@ use Rattle.cond_syntax.specs.TableTexts.{Fault, IsTableText, IsFirstFault}
 use Rattle.cond_syntax.specs.TableTexts as syntax
 use Rattle.cond_text.specs.declared.faults.TextFault.{TextFault}
 use Rattle.cond_text.specs.declared.faults.TextFault.TheVariants.{Syntax, UnknownMethod, UnknownName, Twice, TooDeep, NoMemory as NoMemoryForText}
-use Rattle.cond_text.specs.TextFaults.{IsTold}
+use Rattle.cond_text.specs.TextFaults.{IsFaultTold}
 use Rattle.galois_run.specs.declared.run_faults.RunFault.{RunFault}
 use Rattle.galois_run.specs.declared.run_faults.RunFault.TheVariants.{BadInput}
 use Rattle.galois_run.specs.RunFaults.{fault_of_text, FaultsWhere}
@@ -22,9 +22,9 @@ fault_at wanted bytes told line fault first same = record {
 
 -- what a refusal tells of the text is what this refusal would have to tell of any first fault
 abbrev pub TellsOf : TextFault → ℕ → Fault → Type 0
-TellsOf refused line fault = IsTold (λ k f. (k ≡ line) × (f ≡ fault)) refused
+TellsOf refused line fault = IsFaultTold (λ k f. (k ≡ line) × (f ≡ fault)) refused
 
-text_told : {A : Type 0} (wanted : List Kind) (bytes : List ℕ) (refused : TextFault) (line : ℕ) → IsTold (IsFirstFault wanted bytes) refused
+text_told : {A : Type 0} (wanted : List Kind) (bytes : List ℕ) (refused : TextFault) (line : ℕ) → IsFaultTold (IsFirstFault wanted bytes) refused
     → ((l : ℕ) (f : Fault) → IsFirstFault wanted bytes l f → TellsOf refused l f) → FaultsWhere {A = A} (IsFaultyTable wanted bytes line) (BadInput line) (Err (fault_of_text refused))
 text_told wanted bytes (Syntax k) line told tells = fault_at wanted bytes k line syntax.Syntax told (λ m. (tells line m.fault m.is_first).0)
 text_told wanted bytes (UnknownMethod k) line told tells = fault_at wanted bytes k line syntax.UnknownMethod told (λ m. (tells line m.fault m.is_first).0)
@@ -35,7 +35,7 @@ text_told wanted bytes NoMemoryForText line told tells = record { only = λ e. a
 
 -- a refusal of the reader, handed on
 pub text_refused : {A : Type 0} (bytes : List ℕ) (wanted kinds : List Kind) (refused : TextFault) (line : ℕ) (fault : RunFault) → wanted ≡ kinds → fault ≡ fault_of_text refused
-    → IsTold (IsFirstFault wanted bytes) refused → ((l : ℕ) (f : Fault) → IsFirstFault wanted bytes l f → TellsOf refused l f)
+    → IsFaultTold (IsFirstFault wanted bytes) refused → ((l : ℕ) (f : Fault) → IsFirstFault wanted bytes l f → TellsOf refused l f)
     → FaultsWhere {A = A} (IsFaultyTable kinds bytes line) (BadInput line) (Err fault)
 text_refused {A} bytes wanted kinds refused line fault e is told tells =
     subst (λ (these : List Kind). FaultsWhere {A = A} (IsFaultyTable these bytes line) (BadInput line) (Err fault)) e

@@ -9,7 +9,7 @@ use Rattle.preflow_push.specs.Networks.{Net}
 use Rattle.preflow_push.specs.Discharge.{discharge_operator}
 use Rattle.preflow_push.proofs.CallerLemmas.{one_network}
 use Rattle.galois_run.specs.declared.options.RunOptions.{RunOptions}
-use Rattle.galois_run.specs.commands.Flow.{IsRunTable, network_machine, IsRunOf, IsRunPast, IsFlowReport, IsFlowPast, IsFlowWithin, UnderRunTable}
+use Rattle.galois_run.specs.commands.Flow.{IsRunTable, network_machine, IsNetworkRun, IsRunPast, IsFlowReport, IsFlowPast, IsFlowWithin, UnderRunTable}
 use Rattle.galois_run.proofs.meanings.LimitedRuns.{once, never}
 use Rattle.galois_run.proofs.meanings.RunTables.{one_table}
 
@@ -21,7 +21,7 @@ module _ (options : RunOptions) (table : RowMap) (net : Net) where
   same_limit : (a b : Limit) → IsRunPast options table net a → IsRunPast options table net b → a ≡ b
   same_limit a b p q = once (discharge_operator net) (network_machine net table) options.workers turns_for p.turns q.turns a b p.passes q.passes
 
-  ended : (run : Run) (a : Limit) → IsRunOf options table net run → IsRunPast options table net a → ⊥
+  ended : (run : Run) (a : Limit) → IsNetworkRun options table net run → IsRunPast options table net a → ⊥
   ended run a r p =
       never (discharge_operator net) (network_machine net table) options.workers turns_for r.turns p.turns a r.unlimited
       (ap (λ (x : Run). is_empty x.machine.book.ready) (sym r.is_run) ∙ ap is_empty r.ends) p.passes

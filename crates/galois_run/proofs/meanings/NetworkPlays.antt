@@ -34,8 +34,8 @@ module _ {T S : Type 0} (table : RowMap) where
   told_is : (made : Visits (Value T S)) → made.moves ≡ [] → (view_of tells made).told ≡ (λ room. slice_get made.values room)
   told_is made e = ap (λ moves. (after_moves tells moves (first_view tells made.values)).told) e
 
-  pub is_free : (net : Net) (made : Visits (Value T S)) → AreRoomsOf table net made → (room : ℕ) → is_held (view_of tells made) room ≡ false
-  is_free net made are room = ap (λ moves. is_held (after_moves tells moves (first_view tells made.values)) room) are.unmoved
+  pub rooms_unheld : (net : Net) (made : Visits (Value T S)) → AreRoomsOf table net made → (room : ℕ) → is_held (view_of tells made) room ≡ false
+  rooms_unheld net made are room = ap (λ moves. is_held (after_moves tells moves (first_view tells made.values)) room) are.unmoved
 
   pub is_new : (net : Net) (made : Visits (Value T S)) (op : Operator) → op.ordered ≡ false → op.rooms ≡ rooms → AreRoomsOf table net made → AreNewFor op (view_of tells made).told
   is_new net made op unordered count are =

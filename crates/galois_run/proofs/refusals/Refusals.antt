@@ -13,7 +13,7 @@ use Rattle.galois_run.specs.declared.status.Status.TheVariants as statuses
 use Rattle.galois_run.specs.declared.words.Command.{Command}
 use Rattle.galois_run.specs.declared.words.Command.TheVariants.{Flow, Classify, Help, Version}
 use Rattle.galois_run.specs.CommandMeanings.{meaning_by}
-use Rattle.galois_run.specs.Inputs.{Inputs, IsWithinLength, IsTooLong, AreWithin, HasTooLong}
+use Rattle.galois_run.specs.Inputs.{Inputs, IsWithinLength, IsTooLong, AreWithinLength, HasTooLong}
 use Rattle.galois_run.specs.CommandMeaning.{CommandMeaning}
 use Rattle.galois_run.specs.commands.Flow.{IsNetworkLimit}
 use Rattle.cond_syntax.proofs.CallerLemmas.{no_fault_of_a_table}
@@ -33,7 +33,7 @@ short_or_long : (file : Option (List ℕ)) → IfSome file IsWithinLength → Is
 short_or_long None within long = long
 short_or_long (Some bytes) within long = omega (arith, within, long)
 
-not_too_long : (inputs : Inputs) → AreWithin inputs → HasTooLong inputs → ⊥
+not_too_long : (inputs : Inputs) → AreWithinLength inputs → HasTooLong inputs → ⊥
 not_too_long inputs within (inl main) = short_or_long inputs.main within.main main
 not_too_long inputs within (inr (inl conditions)) = short_or_long inputs.conditions within.conditions conditions
 not_too_long inputs within (inr (inr second)) = short_or_long inputs.second within.second second
@@ -44,7 +44,7 @@ never is status other none = record { only = λ e. absurd (other e); always = λ
 no_fault : {A cause : Type 0} (fault : RunFault) (text : A) → FaultsWhere cause fault (Ok text) → cause → ⊥
 no_fault fault text exact h = elim (exact.always h) [ inl e ↦ absurd (cc) | inr e ↦ absurd (cc) ]
 
-not_too_large : (meaning : CommandMeaning) (inputs : Inputs) (what : What) → AreWithin inputs → (meaning.too_large inputs what → ⊥) → PassesLimit meaning inputs what → ⊥
+not_too_large : (meaning : CommandMeaning) (inputs : Inputs) (what : What) → AreWithinLength inputs → (meaning.too_large inputs what → ⊥) → PassesLimit meaning inputs what → ⊥
 not_too_large meaning inputs what within small (inl passed) = not_too_long inputs within passed.1
 not_too_large meaning inputs what within small (inr passed) = small passed.1
 
@@ -56,7 +56,7 @@ not_write_fault : (limit : Limit) → statuses.WriteFault ≢ status_of_limit li
 not_write_fault limits.Spent e = cc
 not_write_fault limits.Kept e = cc
 
-report_caused : (command : Command) (options : RunOptions) (inputs : Inputs) (text : Vec ℕ Global) → AreWithin inputs → Answers (meaning_by command options) inputs (Ok text) → IsCaused (meaning_by command options) inputs statuses.Ok
+report_caused : (command : Command) (options : RunOptions) (inputs : Inputs) (text : Vec ℕ Global) → AreWithinLength inputs → Answers (meaning_by command options) inputs (Ok text) → IsCaused (meaning_by command options) inputs statuses.Ok
 report_caused command options inputs text within answers = record {
   too_large = λ what. never _ _ (λ e. cc) (not_too_large (meaning_by command options) inputs what within (no_fault _ text (answers.too_large what)));
   bad_table = λ why. never _ _ (λ e. cc) (λ m. no_fault _ text (answers.bad_table why) m.1);
@@ -69,7 +69,7 @@ at_inputs : (held : Option Inputs) (read : Inputs) (P : Inputs → Type 0) → I
 at_inputs None read P same h = tt
 at_inputs (Some inputs) read P same h = subst P same h
 
-pub report_by_held : (command : Command) (options : RunOptions) (held : Option Inputs) (read : Inputs) (text : Vec ℕ Global) → IfSome held (λ inputs. read ≡ inputs) → AreWithin read
+pub report_by_held : (command : Command) (options : RunOptions) (held : Option Inputs) (read : Inputs) (text : Vec ℕ Global) → IfSome held (λ inputs. read ≡ inputs) → AreWithinLength read
     → Answers (meaning_by command options) read (Ok text) → IfSome held (λ inputs. IsCaused (meaning_by command options) inputs statuses.Ok)
 report_by_held command options held read text same within answers = at_inputs held read _ same (report_caused command options read text within answers)
 
@@ -125,16 +125,16 @@ comes told fault result is down up exact = record {
   always = λ h. elim (exact.always (down h)) [ inl e ↦ inl (status_by told fault result is e) | inr e ↦ inr (inr (status_by told NoMemory result is e)) ];
 }
 
-past_limit : (meaning : CommandMeaning) (inputs : Inputs) (what : What) → AreWithin inputs → PassesLimit meaning inputs what → meaning.too_large inputs what
+past_limit : (meaning : CommandMeaning) (inputs : Inputs) (what : What) → AreWithinLength inputs → PassesLimit meaning inputs what → meaning.too_large inputs what
 past_limit meaning inputs what within (inl passed) = absurd (not_too_long inputs within passed.1)
 past_limit meaning inputs what within (inr passed) = passed.1
 
-refusal_past : (meaning : CommandMeaning) (inputs : Inputs) (told : RunFault) (result : Result (Vec ℕ Global) RunFault) (limit : Limit) → result ≡ Err told → AreWithin inputs
-    → FaultsWhere (meaning.passes inputs limit) (fault_of_limit limit) result → ComesWhere (AreWithin inputs × meaning.passes inputs limit) (status_of_limit limit) (status_of_fault told)
+refusal_past : (meaning : CommandMeaning) (inputs : Inputs) (told : RunFault) (result : Result (Vec ℕ Global) RunFault) (limit : Limit) → result ≡ Err told → AreWithinLength inputs
+    → FaultsWhere (meaning.passes inputs limit) (fault_of_limit limit) result → ComesWhere (AreWithinLength inputs × meaning.passes inputs limit) (status_of_limit limit) (status_of_fault told)
 refusal_past meaning inputs told result limits.Spent is within exact = comes told Spent result is (λ m. m.1) (λ m. (within, m)) exact
 refusal_past meaning inputs told result limits.Kept is within exact = comes told Kept result is (λ m. m.1) (λ m. (within, m)) exact
 
-refusal_caused : (command : Command) (options : RunOptions) (inputs : Inputs) (told : RunFault) (result : Result (Vec ℕ Global) RunFault) → result ≡ Err told → AreWithin inputs → Answers (meaning_by command options) inputs result → IsCaused (meaning_by command options) inputs (status_of_fault told)
+refusal_caused : (command : Command) (options : RunOptions) (inputs : Inputs) (told : RunFault) (result : Result (Vec ℕ Global) RunFault) → result ≡ Err told → AreWithinLength inputs → Answers (meaning_by command options) inputs result → IsCaused (meaning_by command options) inputs (status_of_fault told)
 refusal_caused command options inputs told result is within answers = record {
   too_large = λ what. comes told (TooLarge what) result is (past_limit (meaning_by command options) inputs what within) (λ l. inr (within, l)) (answers.too_large what);
   bad_table = λ why. comes told (BadTable why) result is (λ m. m.1) (λ m. (within, m)) (answers.bad_table why);
@@ -142,7 +142,7 @@ refusal_caused command options inputs told result is within answers = record {
   past = λ limit. refusal_past (meaning_by command options) inputs told result limit is within (answers.passes limit);
 }
 
-pub refusal_by_held : (command : Command) (options : RunOptions) (held : Option Inputs) (read : Inputs) (told : RunFault) → IfSome held (λ inputs. read ≡ inputs) → AreWithin read
+pub refusal_by_held : (command : Command) (options : RunOptions) (held : Option Inputs) (read : Inputs) (told : RunFault) → IfSome held (λ inputs. read ≡ inputs) → AreWithinLength read
     → Answers (meaning_by command options) read (Err told) → IfSome held (λ inputs. IsCaused (meaning_by command options) inputs (status_of_fault told))
 refusal_by_held command options held read told same within answers = at_inputs held read _ same (refusal_caused command options read told (Err told) refl within answers)
 

@@ -27,16 +27,16 @@ class_text General = codes "GENERAL"
 abbrev pub pair_line : ℕ → ℕ → Condition → List ℕ
 pair_line first second row = line (codes "row" ∷ word_of first ∷ word_of second ∷ class_text (grade_of row) ∷ condition_text row ∷ [])
 
-abbrev pub row_line : Rows → ℕ → ℕ → List ℕ
-row_line rows first second = pair_line first second (rows first second)
+abbrev pub class_line : Rows → ℕ → ℕ → List ℕ
+class_line rows first second = pair_line first second (rows first second)
 
 -- the lines of the rows with this method first
-abbrev pub first_lines : Kind → Rows → ℕ → List ℕ
-first_lines kind rows first = flat_map (row_line rows first) (methods_of (kind_number kind))
+abbrev pub class_lines : Kind → Rows → ℕ → List ℕ
+class_lines kind rows first = flat_map (class_line rows first) (methods_of (kind_number kind))
 
 -- a line for each pair of methods of the kind, by their numbers
 abbrev pub rows_text : Kind → Rows → List ℕ
-rows_text kind rows = flat_map (first_lines kind rows) (methods_of (kind_number kind))
+rows_text kind rows = flat_map (class_lines kind rows) (methods_of (kind_number kind))
 
 -- the lines of the rows, and then those on lock modes
 pub record IsClassText (kind : Kind) (rows : Rows) (text : List ℕ) : Type 0 where

@@ -26,7 +26,7 @@ use Rattle.iterate.specs.SessionViews.{begun_view}
 use Rattle.traces.specs.Traces.{trace_text}
 use Rattle.preflow_push.specs.FlowCalls.{rooms}
 use Rattle.preflow_push.specs.Networks.{Net}
-use Rattle.preflow_push.specs.FlowFiles.{IsFirstFault}
+use Rattle.preflow_push.specs.FlowFiles.{IsFirstBadLine}
 use Rattle.preflow_push.specs.FlowLimits.{IsReadable, IsTooLarge}
 use Rattle.preflow_push.specs.Discharge.{discharge_operator}
 use Rattle.preflow_push.specs.Starts.{start_states, start_ready}
@@ -87,7 +87,7 @@ limit_in options net table turns =
     limit_of_played (discharge_operator net) (network_machine net table) options.workers (schedule_of options.seed options.workers options.turns) turns
 
 -- this is the network's run by its schedule, to its end, and no commit of it passes a limit
-pub record IsRunOf (options : RunOptions) (table : RowMap) (net : Net) (run : Run) : Type 0 where
+pub record IsNetworkRun (options : RunOptions) (table : RowMap) (net : Net) (run : Run) : Type 0 where
   pub turns : ℕ
   pub is_run : run ≡ run_of options net table turns
   pub ends : run.machine.book.ready ≡ []
@@ -108,7 +108,7 @@ pub record IsReportOf (options : RunOptions) (table : RowMap) (net : Net) (repor
   pub after : ℕ → State
   pub serial : IsSerialRun (discharge_operator net) (start_states net) (with_items [] (start_ready net)) commits (record { states = after; ready = []; outcomes = outcomes_of commits })
   pub run : Run
-  pub is_run : IsRunOf options table net run
+  pub is_run : IsNetworkRun options table net run
   pub in_order : run.machine.book.commits ≡ commits
   pub is_report : report ≡ flow_report net (order_of commits) after ++ trace_text (record { turns = options.trace; told = options.told }) run.trace
 
@@ -141,7 +141,7 @@ pub record IsFlowWithin (options : RunOptions) (conditions : Option (List ℕ)) 
 
 -- the file is of no network, and this is the first line that can't stand where it is
 abbrev pub IsFaultyFlow : List ℕ → ℕ → Type 0
-IsFaultyFlow bytes line = IsFirstFault (lines_of bytes) line
+IsFaultyFlow bytes line = IsFirstBadLine (lines_of bytes) line
 
 -- networks have limits on their nodes and on their arcs
 abbrev pub IsNetworkLimit : What → Type 0

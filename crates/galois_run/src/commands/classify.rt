@@ -7,7 +7,7 @@ ghost use Rattle.gx_base.specs.declared.inputs.What.{What};
 ghost use Rattle.speculation.specs.Limits.{Limit};
 ghost use Rattle.galois_run.specs.Inputs.{inputs_in};
 ghost use Rattle.cond_syntax.specs.TableTexts.{all_kinds};
-ghost use Rattle.galois_run.specs.commands.Classify.{class_text, pair_line, first_lines, rows_text, IsClassText, IsClassReport, IsFaultyTable, classify_meaning};
+ghost use Rattle.galois_run.specs.commands.Classify.{class_text, pair_line, class_lines, rows_text, IsClassText, IsClassReport, IsFaultyTable, classify_meaning};
 ghost use Rattle.line_writer.specs.Lines.{line};
 ghost use Rattle.galois_run.specs.RunFaults.{fault_of_text, fault_of_limit, FaultsWhere, Answers};
 ghost use Rattle.galois_run.specs.declared.run_faults.RunFault.TheVariants as faults;
@@ -84,7 +84,7 @@ fn put_first(
     table: &Table,
     first: u32,
 ) -> Result<(), NoMemory>
-    ensures { OnOk result (text.new.items ≡ text.old.items ++ first_lines kind (row_of table.now) first) }
+    ensures { OnOk result (text.new.items ≡ text.old.items ++ class_lines kind (row_of table.now) first) }
 {
     let mut place = 0;
     while let Some(second) = method_at(kind, place) {

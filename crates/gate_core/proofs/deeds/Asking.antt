@@ -13,7 +13,7 @@ use Rattle.gx_base.proofs.CallerLemmas.{undoes, start_of-append}
 use Rattle.gx_base.specs.Replays as replays
 use Rattle.gate_core.specs.declared.refusals.Told.{Told}
 use Rattle.gate_core.specs.Entries.{made_of, mades_of}
-use Rattle.gate_core.specs.Replays.{Legal, start_of, AllSawRight, LeadTo}
+use Rattle.gate_core.specs.Replays.{LegalEntries, start_of, AllSawRight, LeadTo}
 use Rattle.gate_core.specs.Views.{GateView, IsLawfulGate, rows_of, live_start, asked_entry, in_way, admit}
 use Rattle.gate_core.specs.CallAnswers.{AllRoomed, IsGate, IsAdmitted, TellsOf}
 use Rattle.gate_core.proofs.lists.EntryLists.{each_append, each_same}
@@ -48,7 +48,7 @@ start_seen g worker iter item call e s live h c a = (λ i. start_of (a.next i) (
 -- the live entries with the asked one lead from a state to the one after the call
 record LeadsFrom (rows : Rows) (from : State) (live : List Entry) (asked : Entry) (state : State) : Type 0 where
   stands : IsState from
-  legal : Legal from (live ++ asked ∷ []) state
+  legal : LegalEntries from (live ++ asked ∷ []) state
   saw : AllSawRight rows from (live ++ asked ∷ [])
 
 leads : (g : GateView) (worker iter : ℕ) (item : Item) (call : Call) → IsLawfulGate g → IsCall call → LeadTo (rows_of g) g.live (asked_entry worker iter item call g.state) (next_state g.state call)

@@ -3,7 +3,7 @@ use Rattle.std.specs.Prelude.{◌≡◌, ℕ, zero, suc, ◌+◌, ◌<◌, ◌�
 use Rattle.std.proofs.Common.{sym, ◌∙◌, ap, subst, arith}
 use Rattle.gx_base.specs.declared.acts.Entry.{Entry}
 use Rattle.gate_core.specs.Entries.{mades_of, same_iteration, is_of, entries_of, others_than, entries_by, has_entry, last_of, without_last, Each, mark_after, mark_of, NumbersRise}
-use Rattle.gate_core.specs.Replays.{after, Legal}
+use Rattle.gate_core.specs.Replays.{after, LegalEntries}
 use Rattle.gate_core.specs.Views.{GateView, rows_of, live_start, start, IsLawfulGate, undo_entry, undo_last, undo_times}
 use Rattle.gate_core.proofs.lists.EntryLists.{neither, both_true, both_ways}
 use Rattle.gate_core.proofs.replays.Leaving.{Parted, parted}
@@ -13,11 +13,11 @@ use Rattle.gx_base.proofs.CallerLemmas.{after-Legal}
 use Rattle.std.specs.Cmp.{unsigned_Decides}
 
 -- the arrangement leads from the start to the state
-pub replayed : (g : GateView) → IsLawfulGate g → Legal (start g) (g.done ++ g.live) g.state
+pub replayed : (g : GateView) → IsLawfulGate g → LegalEntries (start g) (g.done ++ g.live) g.state
 replayed g h = legal_join (start g) (live_start g) g.state g.done g.live h.done_legal h.live_legal
 
 -- the entries of an iteration may stand before those of all others
-pub released_first : (g : GateView) (worker iter : ℕ) → IsLawfulGate g → Legal (live_start g) (entries_of worker iter g.live ++ others_than worker iter g.live) g.state
+pub released_first : (g : GateView) (worker iter : ℕ) → IsLawfulGate g → LegalEntries (live_start g) (entries_of worker iter g.live ++ others_than worker iter g.live) g.state
 released_first g worker iter h =
     let ms : List Entry = entries_of worker iter g.live in
     let p : Parted g.kind (rows_of g) h.valid (live_start g) g.state ms (others_than worker iter g.live) =
@@ -34,18 +34,18 @@ by_whole : (worker : ℕ) (e m : Entry) → (e.worker == worker) ≡ false → (
 by_whole worker e m n k = by_whole_at worker e m (same_iteration e m) refl n k
 
 -- a worker's live entries alone replay after the done ones
-pub alone : (g : GateView) (worker : ℕ) → IsLawfulGate g → Legal (start g) (g.done ++ entries_by worker g.live) (after (live_start g) (entries_by worker g.live))
+pub alone : (g : GateView) (worker : ℕ) → IsLawfulGate g → LegalEntries (start g) (g.done ++ entries_by worker g.live) (after (live_start g) (entries_by worker g.live))
 alone g worker h =
     let ms : List Entry = entries_by worker g.live in
     let p : Parted g.kind (rows_of g) h.valid (live_start g) g.state ms (filter (λ e. not (e.worker == worker)) g.live) =
     parted g.kind (rows_of g) h.valid (λ e. e.worker == worker) (by_whole worker) (live_start g) g.state g.live (live_stands g h) h.live_calls (live_of g h) in
     legal_join (start g) (live_start g) (after (live_start g) ms) g.done ms h.done_legal p.first
 
-pub replays_alone : (g : GateView) (worker : ℕ) → IsLawfulGate g → Legal (start g) (g.done ++ entries_by worker g.live) (after (start g) (g.done ++ entries_by worker g.live))
+pub replays_alone : (g : GateView) (worker : ℕ) → IsLawfulGate g → LegalEntries (start g) (g.done ++ entries_by worker g.live) (after (start g) (g.done ++ entries_by worker g.live))
 replays_alone g worker h =
     let es : List Entry = g.done ++ entries_by worker g.live in
     let end : after (start g) es ≡ after (live_start g) (entries_by worker g.live) = after-Legal (start g) (after (live_start g) (entries_by worker g.live)) (mades_of es) (alone g worker h) in
-    subst (λ t. Legal (start g) es t) (sym end) (alone g worker h)
+    subst (λ t. LegalEntries (start g) es t) (sym end) (alone g worker h)
 
 -- all calls of an iteration undone
 

@@ -10,7 +10,7 @@ use Rattle.gx_base.specs.Tables.{Rows}
 use Rattle.gx_base.proofs.CallerLemmas.{after-Legal, start_of-Legal}
 use Rattle.gx_base.specs.declared.acts.Entry.{Entry}
 use Rattle.gate_core.specs.Entries.{mades_of, same_iteration, is_of, entries_of, others_than, has_entry, last_of, without_last, done_under, Each, mark_after, mark_of, NumbersRise}
-use Rattle.gate_core.specs.Replays.{after, Legal, start_of, AllCalls, pair_ok, PairsFit, AllSawRight, further, first_failing, Stands}
+use Rattle.gate_core.specs.Replays.{after, LegalEntries, start_of, AllCalls, pair_ok, PairsFit, AllSawRight, further, first_failing, Stands}
 use Rattle.gate_core.specs.Views.{GateView, rows_of, live_start, start, IsLawfulGate, asked_entry, in_way, admit, undo_entry, undo_last, release}
 use Rattle.gate_core.proofs.lists.EntryLists.{of_same, each_append, each_filter, each_without}
 use Rattle.gate_core.proofs.replays.EntryReplays.{mades_of-under, legal_join, calls_append, calls_filter, calls_without}
@@ -67,7 +67,7 @@ pub state_stands : (g : GateView) → IsLawfulGate g → Stands g.kind g.state
 state_stands g h = subst (Stands g.kind) (after-Legal (live_start g) g.state (mades_of g.live) h.live_legal) (stands_after g.kind (live_start g) g.live (live_stands g h) h.live_calls)
 
 -- what replays from the same start is lawful
-pub kept : (g : GateView) (h : IsLawfulGate g) (m t : State) (done live : List Entry) (mark : ℕ) → AllCalls done → AllCalls live → Legal (start g) done m → AreLive (rows_of g) m live t
+pub kept : (g : GateView) (h : IsLawfulGate g) (m t : State) (done live : List Entry) (mark : ℕ) → AllCalls done → AllCalls live → LegalEntries (start g) done m → AreLive (rows_of g) m live t
     → NumbersRise 0 done → mark ≡ mark_of 0 done → Each (λ e. e.done ≡ None) live → Kept g (record g { state = t; done = done; live = live; mark = mark })
 kept g h m t done live mark cd cl ld a n k u =
     let s : State = start g in
@@ -81,8 +81,8 @@ kept g h m t done live mark cd cl ld a n k u =
         stands = subst (Stands g.kind) (sym whole) h.stands;
         done_calls = cd;
         live_calls = cl;
-        done_legal = subst (λ v. Legal v done (start_of t live)) (sym whole) (subst (λ v. Legal s done v) (sym mid) ld);
-        live_legal = subst (λ v. Legal v live t) (sym mid) a.legal;
+        done_legal = subst (λ v. LegalEntries v done (start_of t live)) (sym whole) (subst (λ v. LegalEntries s done v) (sym mid) ld);
+        live_legal = subst (λ v. LegalEntries v live t) (sym mid) a.legal;
         pairs = subst (λ v. PairsFit (rows_of g) v live) (sym mid) a.pairs;
         saw = subst (λ v. AllSawRight (rows_of g) v live) (sym mid) a.saw;
         numbers = n;
@@ -97,7 +97,7 @@ both_parts true None e = (refl, refl)
 both_parts true (Some x) e = absurd (cc)
 both_parts false o e = absurd (cc)
 
-pub saw_append : (rows : Rows) (s t : State) (es : List Entry) (f : Entry) → Legal s es t → AllSawRight rows s es → f.seen ≡ observed t f.call.a → AllSawRight rows s (es ++ f ∷ [])
+pub saw_append : (rows : Rows) (s t : State) (es : List Entry) (f : Entry) → LegalEntries s es t → AllSawRight rows s es → f.seen ≡ observed t f.call.a → AllSawRight rows s (es ++ f ∷ [])
 saw_append rows s t [] f l w q = (λ _. q ∙ ap (λ u. observed u f.call.a) (sym l), tt)
 saw_append rows s t (e ∷ es) f l w q = (w.0, saw_append rows (next_state s e.call) t es f l.1 w.1 q)
 

@@ -9,7 +9,7 @@ use Rattle.gx_base.specs.Steps.{IsCall}
 use Rattle.gx_base.specs.Replays as replays
 use Rattle.gx_base.proofs.CallerLemmas.{Legal-append}
 use Rattle.gate_core.specs.Entries.{made_of, mades_of, without_last, done_under, Each}
-use Rattle.gate_core.specs.Replays.{Legal, AllCalls}
+use Rattle.gate_core.specs.Replays.{LegalEntries, AllCalls}
 use Rattle.gate_core.proofs.lists.EntryLists.{each_append, each_filter, each_without}
 
 pub mades_of-append : (xs ys : List Entry) → mades_of (xs ++ ys) ≡ mades_of xs ++ mades_of ys
@@ -21,7 +21,7 @@ mades_of-under number [] = refl
 mades_of-under number (e ∷ es) = ap (λ mades. made_of e ∷ mades) (mades_of-under number es)
 
 -- replays join where the first ends
-pub legal_join : (s m t : State) (xs ys : List Entry) → Legal s xs m → Legal m ys t → Legal s (xs ++ ys) t
+pub legal_join : (s m t : State) (xs ys : List Entry) → LegalEntries s xs m → LegalEntries m ys t → LegalEntries s (xs ++ ys) t
 legal_join s m t xs ys p q =
     subst (λ (mades : List Made). replays.Legal s mades t) (sym (mades_of-append xs ys)) (Legal-append s m t (mades_of xs) (mades_of ys) p q)
 

@@ -7,7 +7,7 @@ use Rattle.gx_base.specs.Tables.{Rows, IsValid}
 use Rattle.gx_base.proofs.CallerLemmas.{undoes}
 use Rattle.gx_base.specs.declared.acts.Entry.{Entry}
 use Rattle.gate_core.specs.Entries.{same_iteration, is_of, has_entry, last_of, without_last, Each}
-use Rattle.gate_core.specs.Replays.{after, Legal, AllCalls, pair_ok, PairsFit, SawRight, AllSawRight, Stands}
+use Rattle.gate_core.specs.Replays.{after, LegalEntries, AllCalls, pair_ok, PairsFit, SawRight, AllSawRight, Stands}
 use Rattle.gate_core.proofs.lists.EntryLists.{some_same, neither, of_same, same_turn, each_filter, each_without, each_same}
 use Rattle.gate_core.specs.Swaps.{Swapped}
 use Rattle.gate_core.proofs.replays.EntryReplays.{calls_filter}
@@ -25,7 +25,7 @@ none_after worker iter e (x ∷ es) q n =
 
 -- the entries lead from s to t, may be live together, and saw what was right
 pub record AreLive (rows : Rows) (s : State) (es : List Entry) (t : State) : Type 0 where
-  pub legal : Legal s es t
+  pub legal : LegalEntries s es t
   pub pairs : PairsFit rows s es
   pub saw : AllSawRight rows s es
 
@@ -54,7 +54,7 @@ module _ (kind : ℕ) (rows : Rows) (valid : IsValid kind rows) where
 
   -- some entries first, and then the others, which are live as before
   pub record Parted (s t : State) (ms os : List Entry) : Type 0 where
-    pub first : Legal s ms (after s ms)
+    pub first : LegalEntries s ms (after s ms)
     pub rest : AreLive rows (after s ms) os t
 
   -- an entry that was made first stands after entries of other iterations

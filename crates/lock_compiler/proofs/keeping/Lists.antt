@@ -11,7 +11,7 @@ use Rattle.std.proofs.lemmas.Bool.{cond-true, cond-false, eqb-true, eqb-false, e
 use Rattle.lock_compiler.specs.declared.modes.Mode.{Mode}
 use Rattle.lock_compiler.specs.declared.wants.MethodWants.{MethodWants}
 use Rattle.lock_compiler.specs.LockModes.{Member, LockModes, Want, wants_among, wants_from, wants_of, need_of, needs_of}
-use Rattle.lock_compiler.specs.Wants.{is_for, mode_of, modes_of, wanted_in, AreKept}
+use Rattle.lock_compiler.specs.Wants.{is_for, mode_of, modes_of, wanted_in, AreKeptWants}
 
 -- one more want, where this says so
 abbrev pub one_if : Bool → Want → List Want
@@ -159,17 +159,17 @@ few_wanted (x ∷ xs) h method =
 
 -- modes and lists that are kept for them
 pub kept : (modes : List Mode) (lists : List MethodWants) → length modes < 2 ^ 32 → All (λ (list : MethodWants). length list.wants.items < 2 ^ 32) lists
-    → ((method : ℕ) → wanted_in lists method ≡ wants_of (modes_of modes) method) → AreKept (modes_of modes) lists
+    → ((method : ℕ) → wanted_in lists method ≡ wants_of (modes_of modes) method) → AreKeptWants (modes_of modes) lists
 kept modes lists few few_each wants = record {
   few = omega (arith, length-map modes mode_of);
   few_wants = λ method. subst (λ (ws : List Want). length ws < 2 ^ 32) (wants method) (few_wanted lists few_each method);
   wants = wants;
 }
 
-pub few_needs : (modes : LockModes) (lists : List MethodWants) (made : Made) → AreKept modes lists → length (needs_of modes made) < 2 ^ 32
+pub few_needs : (modes : LockModes) (lists : List MethodWants) (made : Made) → AreKeptWants modes lists → length (needs_of modes made) < 2 ^ 32
 few_needs modes lists made k =
     let few : length (wants_of modes made.call.method) < 2 ^ 32 = k.few_wants made.call.method in
     omega (arith, length-map (wants_of modes made.call.method) (need_of made))
 
-pub needs_kept : (modes : LockModes) (lists : List MethodWants) (made : Made) (i : ℕ) → AreKept modes lists → slice_get (map (need_of made) (wanted_in lists made.call.method)) i ≡ slice_get (needs_of modes made) i
+pub needs_kept : (modes : LockModes) (lists : List MethodWants) (made : Made) (i : ℕ) → AreKeptWants modes lists → slice_get (map (need_of made) (wanted_in lists made.call.method)) i ≡ slice_get (needs_of modes made) i
 needs_kept modes lists made i k = ap (λ (ws : List Want). slice_get (map (need_of made) ws) i) (k.wants made.call.method)

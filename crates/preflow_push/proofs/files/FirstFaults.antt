@@ -11,7 +11,7 @@ use Rattle.text_lines.specs.Numbers.{number_of, digits_value_of}
 use Rattle.preflow_push.specs.FlowLines.{said_by}
 use Rattle.preflow_push.specs.FlowReading.{FileState, at_first, may_be_terminal, step, whole, ended, then_read, read_from, flow_of}
 use Rattle.preflow_push.specs.Networks.{Net}
-use Rattle.preflow_push.specs.FlowFiles.{new_arc, AreFlow, CanGoOn, IsFirstFault}
+use Rattle.preflow_push.specs.FlowFiles.{new_arc, AreFlow, CanGoOn, IsFirstBadLine}
 use Rattle.preflow_push.proofs.files.LineTests.{stand_so, go_so, free_so, eq_so, Stands}
 use Rattle.preflow_push.proofs.files.LineRuns.{then_after, after, st, Good, good_source, good_sink, good_arc, begins, is_flow, flow_read, read_is, whole_read}
 
@@ -222,7 +222,7 @@ flow_is_read bytes net f = let xs = map said_by (lines_of bytes) in let r = flow
 not_whole : (o : Option FileState) (t u : FileState) (net : Net) → o ≡ Some t → whole t ≡ None → o ≡ Some u → whole u ≡ Some net → ⊥
 not_whole o t u net a b c d = let e : t ≡ u = cc in let f : whole u ≡ None = sym (ap whole e) ∙ b in cc
 
-pub first_fault : (bytes : List ℕ) (k : ℕ) → flow_of bytes ≡ Err k → IsFirstFault (lines_of bytes) k
+pub first_fault : (bytes : List ℕ) (k : ℕ) → flow_of bytes ≡ Err k → IsFirstBadLine (lines_of bytes) k
 first_fault bytes k h =
     let lines = lines_of bytes in
     let s = stops (map said_by lines) 1 at_first k h in
@@ -250,10 +250,10 @@ can_earlier lines i j le c =
     ap (λ (l : List (List ℕ)). l ++ (drop i front ++ c.0)) (sym same) ∙ sym (append_assoc (take i front) (drop i front) c.0) ∙ ap (λ (l : List (List ℕ)). l ++ c.0) whole in
     (drop i front ++ c.0, c.1, subst (λ (l : List (List ℕ)). AreFlow l c.1) (sym parts) c.2)
 
-not_before : (lines : List (List ℕ)) (a b : ℕ) → IsFirstFault lines a → IsFirstFault lines b → a < b → ⊥
+not_before : (lines : List (List ℕ)) (a b : ℕ) → IsFirstBadLine lines a → IsFirstBadLine lines b → a < b → ⊥
 not_before lines a b p q lt = p.here (omega (arith, q.within)) (can_earlier lines a (b - 1) (omega arith) q.before)
 
-pub one_fault : (lines : List (List ℕ)) (a b : ℕ) → IsFirstFault lines a → IsFirstFault lines b → a ≡ b
+pub one_fault : (lines : List (List ℕ)) (a b : ℕ) → IsFirstBadLine lines a → IsFirstBadLine lines b → a ≡ b
 one_fault lines a b p q = elim (cases_lt a b) [
   | inl lt ↦ absurd (not_before lines a b p q lt)
   | inr le ↦ elim (cases_lt b a) [
@@ -262,7 +262,7 @@ one_fault lines a b p q = elim (cases_lt a b) [
   ]
 ]
 
-pub no_fault : (lines : List (List ℕ)) (net : Net) (k : ℕ) → AreFlow lines net → IsFirstFault lines k → ⊥
+pub no_fault : (lines : List (List ℕ)) (net : Net) (k : ℕ) → AreFlow lines net → IsFirstBadLine lines k → ⊥
 no_fault lines net k f p = elim (cases_lt (length lines) k) [
   | inl lt ↦ p.missing (omega (arith, p.within)) net f
   | inr le ↦

@@ -2,7 +2,7 @@
 use Rattle.std.proofs.Common.{◌≡◌, ℕ, ◌<◌, Bool, true, false, not, ◌&&◌, eqb, leb, ltb, Option, Some, None, refl, sym, ◌∙◌, arith}
 use Rattle.std.proofs.lemmas.Bool.{lt-ltb, le-leb, ltb-true, leb-true, eqb-false}
 use Rattle.std.proofs.lemmas.Bool.Decides.{nat_tests}
-use Rattle.preflow_push.specs.FlowReading.{is_node_number, is_free, may_be_terminal, may_go}
+use Rattle.preflow_push.specs.FlowReading.{is_node_number, is_other_than, may_be_terminal, may_go}
 use Rattle.preflow_push.specs.FlowFiles.{most_capacity, IsNode, Joins}
 
 and_true : (x y : Bool) → (x && y) ≡ true → (x ≡ true) × (y ≡ true)
@@ -28,19 +28,19 @@ pub record Stands (n : ℕ) (this other : Option ℕ) (id : ℕ) : Type 0 where
   pub node : IsNode n id
   pub free : (y : ℕ) → other ≡ Some y → id ≡ y → ⊥
 
-free_is : (id : ℕ) (other : Option ℕ) → is_free id other ≡ true → (y : ℕ) → other ≡ Some y → id ≡ y → ⊥
+free_is : (id : ℕ) (other : Option ℕ) → is_other_than id other ≡ true → (y : ℕ) → other ≡ Some y → id ≡ y → ⊥
 free_is id None h y e f = absurd cc
 free_is id (Some x) h y e f = let ne = eqb-false id x (not_true (eqb id x) h) in let same : x ≡ y = cc in ne (f ∙ sym same)
 
-pub free_so : (id : ℕ) (other : Option ℕ) → ((y : ℕ) → other ≡ Some y → id ≡ y → ⊥) → is_free id other ≡ true
+pub free_so : (id : ℕ) (other : Option ℕ) → ((y : ℕ) → other ≡ Some y → id ≡ y → ⊥) → is_other_than id other ≡ true
 free_so id None h = refl
 free_so id (Some x) h = let e : eqb id x ≡ false = differs id x (h x refl) in rw e refl
 
 pub stand_is : (n m : ℕ) (this other : Option ℕ) (id : ℕ) → may_be_terminal (Some (n, m)) this other id ≡ true → Stands n this other id
-stand_is n m None other id h = let p = and_true (is_node_number n id) (is_free id other) h in record { first = refl; node = node_is n id p.0; free = free_is id other p.1 }
+stand_is n m None other id h = let p = and_true (is_node_number n id) (is_other_than id other) h in record { first = refl; node = node_is n id p.0; free = free_is id other p.1 }
 stand_is n m (Some x) other id h = absurd cc
 
-pub stand_so : (n m : ℕ) (other : Option ℕ) (id : ℕ) → IsNode n id → is_free id other ≡ true → may_be_terminal (Some (n, m)) None other id ≡ true
+pub stand_so : (n m : ℕ) (other : Option ℕ) (id : ℕ) → IsNode n id → is_other_than id other ≡ true → may_be_terminal (Some (n, m)) None other id ≡ true
 stand_so n m other id node free = let e = node_so n id node in rw (e, free) refl
 
 -- what an arc is that may go

@@ -5,11 +5,11 @@ use Rattle.std.proofs.Common.{sym, ◌∙◌, ap, subst}
 use Rattle.std.proofs.lemmas.List.{length-set}
 use Rattle.gx_base.specs.RoomViews.{RoomView, is_book}
 use Rattle.rooms.specs.RoomsViews.{RoomsView, is_held, holds_book, commits_entered, commits_in, nowhere, entered}
-use Rattle.rooms.specs.HandedOut.{IsTold, IsHandedOut}
-use Rattle.rooms.specs.Visits.{Visits, count_in, count_of, view_of, AreKept}
+use Rattle.rooms.specs.HandedOut.{IsValueTold, IsHandedOut}
+use Rattle.rooms.specs.Visits.{Visits, count_in, count_of, view_of, AreKeptValues}
 use Rattle.rooms.proofs.puts.Putting.{no_bool, numbers_equal, numbers_differ, get_other}
 
-module _ {V : Type 0} (tells : V → RoomView) (view : RoomsView V) (values : List V) (k : AreKept tells view values) where
+module _ {V : Type 0} (tells : V → RoomView) (view : RoomsView V) (values : List V) (k : AreKeptValues tells view values) where
   -- a held book has as many commits as it had when it was entered
   pub entered_commits : holds_book view ≡ true → commits_entered view ≡ count_of tells view
   entered_commits h = ap commits_in (k.held view.book h) ∙ counted (view.told view.book) where
@@ -24,7 +24,7 @@ module _ {V : Type 0} (tells : V → RoomView) (view : RoomsView V) (values : Li
       suits = k.suits room value at;
       live = λ is. k.live room value at;
       mark = λ is h. subst (λ n. (tells value).mark ≤ (if view.released room then n + 1 else n)) (sym (entered_commits h)) (k.marks room value at is);
-      told = subst (λ o. IsTold o value) (sym at) refl;
+      told = subst (λ o. IsValueTold o value) (sym at) refl;
     }
 
     abbrev seen : RoomView
@@ -59,7 +59,7 @@ module _ {V : Type 0} (tells : V → RoomView) (view : RoomsView V) (values : Li
     released_by q false e h = k.released q h
 
     -- the room's place may have any value then
-    entered_kept : (vacant : V) → room ≤ view.book → AreKept tells (entered view room seen) (slice_set values room vacant)
+    entered_kept : (vacant : V) → room ≤ view.book → AreKeptValues tells (entered view room seen) (slice_set values room vacant)
     entered_kept vacant in_range = record {
       size = length-set values room vacant ∙ k.size;
       limit = k.limit;
@@ -74,7 +74,7 @@ module _ {V : Type 0} (tells : V → RoomView) (view : RoomsView V) (values : Li
 
 -- ---- with the moves since the rooms were made
 
-module _ {V : Type 0} (tells : V → RoomView) (before now : Visits V) (same : before ≡ now) (values : List V) (room : ℕ) (value : V) (k : AreKept tells (view_of tells before) values)
+module _ {V : Type 0} (tells : V → RoomView) (before now : Visits V) (same : before ≡ now) (values : List V) (room : ℕ) (value : V) (k : AreKeptValues tells (view_of tells before) values)
     (in_range : room ≤ (view_of tells now).book) (free : is_held (view_of tells now) room ≡ false) (is : slice_get values room ≡ Some value) where
   in_range_before : room ≤ (view_of tells before).book
   in_range_before = subst (λ visits. room ≤ (view_of tells visits).book) (sym same) in_range
@@ -90,7 +90,7 @@ module _ {V : Type 0} (tells : V → RoomView) (before now : Visits V) (same : b
   value_may_go = subst (λ visits. IsHandedOut tells (view_of tells visits) room value) same (value_handed_out tells (view_of tells before) values k room value free_before told_before)
 
   -- and the rooms are kept then, whatever stands in its place
-  pub hand_out_kept : (vacant : V) (after : Visits V) (values_after : List V) → after ≡ record before { moves = record { was_left = false; room = room; value = value } ∷ before.moves } → values_after ≡ slice_set values room vacant → AreKept tells (view_of tells after) values_after
+  pub hand_out_kept : (vacant : V) (after : Visits V) (values_after : List V) → after ≡ record before { moves = record { was_left = false; room = room; value = value } ∷ before.moves } → values_after ≡ slice_set values room vacant → AreKeptValues tells (view_of tells after) values_after
   hand_out_kept vacant after values_after moved put =
-      subst (λ visits. AreKept tells (view_of tells visits) values_after) (sym moved)
-      (subst (λ vs. AreKept tells (entered (view_of tells before) room (tells value)) vs) (sym put) (entered_kept tells (view_of tells before) values k room value free_before told_before vacant in_range_before))
+      subst (λ visits. AreKeptValues tells (view_of tells visits) values_after) (sym moved)
+      (subst (λ vs. AreKeptValues tells (entered (view_of tells before) room (tells value)) vs) (sym put) (entered_kept tells (view_of tells before) values k room value free_before told_before vacant in_range_before))

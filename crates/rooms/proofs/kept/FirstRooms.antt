@@ -5,7 +5,7 @@ use Rattle.std.proofs.lemmas.Option.{same_Some, slice_get_within}
 use Rattle.gx_base.specs.RoomViews.{RoomView, is_book}
 use Rattle.rooms.specs.RoomsViews.{entries_for}
 use Rattle.rooms.specs.HandedOut.{is_ordered}
-use Rattle.rooms.specs.Visits.{everyone, live_in, ordered_in, first_view, last_commits, AreGatesAndBook, count_in, AreKept}
+use Rattle.rooms.specs.Visits.{everyone, live_in, ordered_in, first_view, last_commits, AreGatesAndBook, count_in, AreKeptValues}
 use Rattle.rooms.proofs.puts.Putting.{no_bool, numbers_equal, numbers_differ}
 
 module _ {V : Type 0} (tells : V → RoomView) where
@@ -52,7 +52,7 @@ module _ {V : Type 0} (tells : V → RoomView) where
     marks_by room value true e h is = absurd (no_bool (is_book (tells value).origin) (book_by room value true e h) is)
     marks_by room value false e h is = subst (λ k. (tells value).mark ≤ k) (last_count values last n) (before room value e h).1
 
-    first_kept : last ≡ length values - 1 → length values < 2 ^ 32 → AreKept tells (first_view tells values) values
+    first_kept : last ≡ length values - 1 → length values < 2 ^ 32 → AreKeptValues tells (first_view tells values) values
     first_kept is few = record {
       size = omega arith;
       limit = omega arith;
@@ -73,5 +73,5 @@ module _ {V : Type 0} (tells : V → RoomView) where
   some_last (x ∷ xs) g = omega arith
 
   -- new rooms with these values are kept
-  pub new_kept : (values : List V) → AreGatesAndBook (map tells values) → length values < 2 ^ 32 → AreKept tells (first_view tells values) values
+  pub new_kept : (values : List V) → AreGatesAndBook (map tells values) → length values < 2 ^ 32 → AreKeptValues tells (first_view tells values) values
   new_kept values g few = first_kept values (length values - 1) (some_last values g) g refl few

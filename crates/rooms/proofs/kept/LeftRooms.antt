@@ -7,8 +7,8 @@ use Rattle.std.proofs.lemmas.Option.{same_Some}
 use Rattle.gx_base.specs.Replays.{put}
 use Rattle.gx_base.specs.RoomViews.{RoomView, is_book}
 use Rattle.rooms.specs.RoomsViews.{RoomsView, is_held, holds_book, mark_in, mark_entered, commits_entered, entries_for, nowhere, is_release, told_with, left}
-use Rattle.rooms.specs.HandedOut.{Suits, MayHaveMark, MayBeLeft}
-use Rattle.rooms.specs.Visits.{Visits, count_in, count_of, view_of, AreKept}
+use Rattle.rooms.specs.HandedOut.{MayStand, MayHaveMark, MayBeLeft}
+use Rattle.rooms.specs.Visits.{Visits, count_in, count_of, view_of, AreKeptValues}
 use Rattle.rooms.proofs.puts.Putting.{no_bool, numbers_equal, numbers_differ, get_set, get_other}
 use Rattle.rooms.proofs.kept.EnteredRooms.{entered_commits}
 
@@ -28,7 +28,7 @@ both_right : (a b : Bool) → (a && b) ≡ true → b ≡ true
 both_right true b h = h
 both_right false b h = absurd (cc)
 
-module _ {V : Type 0} (tells : V → RoomView) (view : RoomsView V) (values : List V) (k : AreKept tells view values) (room : ℕ) (value : V) (holds : is_held view room ≡ true) (may : MayBeLeft view room (tells value)) where
+module _ {V : Type 0} (tells : V → RoomView) (view : RoomsView V) (values : List V) (k : AreKeptValues tells view values) (room : ℕ) (value : V) (holds : is_held view room ≡ true) (may : MayBeLeft view room (tells value)) where
   abbrev no_view : Option RoomView
   no_view = None
 
@@ -58,8 +58,8 @@ module _ {V : Type 0} (tells : V → RoomView) (view : RoomsView V) (values : Li
   same_value : (other : V) → told_with (view.told room) value ≡ Some other → value ≡ other
   same_value other h = same_Some value other (sym (told_again (view.told room) value was_told) ∙ h)
 
-  suits_by : (q : ℕ) (other : V) (b : Bool) → (room == q) ≡ b → (if b then told_with (view.told room) value else view.told q) ≡ Some other → Suits view.book view.ordered q (tells other)
-  suits_by q other true e h = subst (λ v. Suits view.book view.ordered q (tells v)) (same_value other h) (subst (λ r. Suits view.book view.ordered r (tells value)) (numbers_equal room q e) may.suits)
+  suits_by : (q : ℕ) (other : V) (b : Bool) → (room == q) ≡ b → (if b then told_with (view.told room) value else view.told q) ≡ Some other → MayStand view.book view.ordered q (tells other)
+  suits_by q other true e h = subst (λ v. MayStand view.book view.ordered q (tells v)) (same_value other h) (subst (λ r. MayStand view.book view.ordered r (tells value)) (numbers_equal room q e) may.suits)
   suits_by q other false e h = k.suits q other h
 
   live_by : (q : ℕ) (other : V) (b : Bool) → (room == q) ≡ b → (if b then told_with (view.told room) value else view.told q) ≡ Some other
@@ -129,7 +129,7 @@ module _ {V : Type 0} (tells : V → RoomView) (view : RoomsView V) (values : Li
   released_by q false true f h = both_left (holds_book view) (mark == commits_entered view + 1) f
   released_by q false false f h = k.released q h
 
-  left_kept : AreKept tells (left tells view room value) (slice_set values room value)
+  left_kept : AreKeptValues tells (left tells view room value) (slice_set values room value)
   left_kept = record {
     size = length-set values room value ∙ k.size;
     limit = k.limit;
@@ -144,11 +144,11 @@ module _ {V : Type 0} (tells : V → RoomView) (view : RoomsView V) (values : Li
 
 -- ---- with the moves since the rooms were made
 
-pub take_back_kept : {V : Type 0} (tells : V → RoomView) (before now after : Visits V) (values values_after : List V) (room : ℕ) (value : V) → before ≡ now → AreKept tells (view_of tells before) values
+pub take_back_kept : {V : Type 0} (tells : V → RoomView) (before now after : Visits V) (values values_after : List V) (room : ℕ) (value : V) → before ≡ now → AreKeptValues tells (view_of tells before) values
     → is_held (view_of tells now) room ≡ true → MayBeLeft (view_of tells now) room (tells value)
-    → after ≡ record before { moves = record { was_left = true; room = room; value = value } ∷ before.moves } → values_after ≡ slice_set values room value → AreKept tells (view_of tells after) values_after
+    → after ≡ record before { moves = record { was_left = true; room = room; value = value } ∷ before.moves } → values_after ≡ slice_set values room value → AreKeptValues tells (view_of tells after) values_after
 take_back_kept tells before now after values values_after room value same k held may moved put =
-    subst (λ visits. AreKept tells (view_of tells visits) values_after) (sym moved)
-    (subst (λ vs. AreKept tells (left tells (view_of tells before) room value) vs) (sym put)
+    subst (λ visits. AreKeptValues tells (view_of tells visits) values_after) (sym moved)
+    (subst (λ vs. AreKeptValues tells (left tells (view_of tells before) room value) vs) (sym put)
     (left_kept tells (view_of tells before) values k room value
     (subst (λ visits. is_held (view_of tells visits) room ≡ true) (sym same) held) (subst (λ visits. MayBeLeft (view_of tells visits) room (tells value)) (sym same) may)))

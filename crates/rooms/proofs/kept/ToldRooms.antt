@@ -5,7 +5,7 @@ use Rattle.std.proofs.lemmas.Option.{slice_get_within, slice_get_cases}
 use Rattle.std.specs.Option.{option_map}
 use Rattle.gx_base.specs.RoomViews.{RoomView}
 use Rattle.rooms.specs.RoomsViews.{RoomsView, is_held}
-use Rattle.rooms.specs.Visits.{AreKept, AreTold}
+use Rattle.rooms.specs.Visits.{AreKeptValues, AreTold}
 
 some_mapped : {A B : Type 0} (f : A → B) (o : Option A) → is_some (option_map f o) ≡ is_some o
 some_mapped f None = refl
@@ -26,7 +26,7 @@ there_or_past values place h (inr past) = absurd (let after = past.0 in omega ar
 some_within : {A : Type 0} (values : List A) (place : ℕ) → place < length values → is_some (slice_get values place) ≡ true
 some_within values place h = there_or_past values place h (slice_get_cases values place).1
 
-module _ {V : Type 0} (tells : V → RoomView) (view : RoomsView V) (values : List V) (k : AreKept tells view values) where
+module _ {V : Type 0} (tells : V → RoomView) (view : RoomsView V) (values : List V) (k : AreKeptValues tells view values) where
   there_by : (room : ℕ) (b : Bool) → is_held view room ≡ b → room ≤ view.book → is_some (view.told room) ≡ true
   there_by room true h below = sym (some_mapped tells (view.told room)) ∙ ap is_some (sym (k.held room h)) ∙ h
   there_by room false h below = ap is_some (k.home room h) ∙ some_within values room (let size = k.size in omega arith)

@@ -3,7 +3,7 @@ use Rattle.std.specs.Prelude.{◌≡◌, ℕ, Bool, true, false, if◌then◌els
 use Rattle.std.proofs.Common.{◌∙◌, ap, inl, inr, arith}
 use Rattle.gx_base.specs.RoomViews.{RoomView}
 use Rattle.rooms.specs.RoomsViews.{RoomsView, entered, left}
-use Rattle.rooms.specs.HandedOut.{HasRisen}
+use Rattle.rooms.specs.HandedOut.{CountHasRisen}
 use Rattle.rooms.specs.Visits.{Move, Visits, everyone, first_view, after_moves, view_of}
 
 -- what no move changes
@@ -11,7 +11,7 @@ record IsFixed {V : Type 0} (before after : RoomsView V) : Type 0 where
   pub acts_for : after.acts_for ≡ before.acts_for
   pub lost : after.lost ≡ before.lost
 
-none_rises : (before now : ℕ) → before ≡ 0 → now ≡ 0 → HasRisen before now → ⊥
+none_rises : (before now : ℕ) → before ≡ 0 → now ≡ 0 → CountHasRisen before now → ⊥
 none_rises before now first last (inl rose) = absurd (omega arith)
 none_rises before now first last (inr stays) = let full : before ≡ 18446744073709551615 = stays.0 in absurd (omega arith)
 
@@ -34,5 +34,5 @@ module _ {V : Type 0} (tells : V → RoomView) where
     pub vector_lost : (room : ℕ) → (view_of tells visits).lost room ≡ 0
     vector_lost room = ap (λ f. f room) (all_moves visits.moves (first_view tells visits.values)).lost
 
-  pub vector_never_risen : (before after : Visits V) (room : ℕ) → HasRisen ((view_of tells before).lost room) ((view_of tells after).lost room) → ⊥
+  pub vector_never_risen : (before after : Visits V) (room : ℕ) → CountHasRisen ((view_of tells before).lost room) ((view_of tells after).lost room) → ⊥
   vector_never_risen before after room h = none_rises ((view_of tells before).lost room) ((view_of tells after).lost room) (vector_lost before room) (vector_lost after room) h

@@ -9,7 +9,7 @@ use Rattle.cond_syntax.specs.TableTexts.{Fault, IsTableText, IsFirstFault}
 use Rattle.cond_syntax.specs.TableTexts as syntax
 use Rattle.cond_text.specs.declared.faults.TextFault.{TextFault}
 use Rattle.cond_text.specs.declared.faults.TextFault.TheVariants.{Syntax, UnknownMethod, UnknownName, Twice, TooDeep, NoMemory as NoMemoryForText}
-use Rattle.cond_text.specs.TextFaults.{IsTold}
+use Rattle.cond_text.specs.TextFaults.{IsFaultTold}
 use Rattle.table_choice.specs.declared.refusals.TableRefuse.{TableRefuse}
 use Rattle.table_choice.specs.declared.refusals.TableRefuse.TheVariants.{Line, NotBelow, NoMemory}
 use Rattle.table_choice.specs.RunTables.{IsFaultyText, IsAbove, RefusesWhere, refusal_of, IsPairRefusal}
@@ -23,10 +23,10 @@ line_at kind bytes told line fault first same = record {
 }
 
 abbrev TellsOf : TextFault → ℕ → Fault → Type 0
-TellsOf refused line fault = IsTold (λ k f. (k ≡ line) × (f ≡ fault)) refused
+TellsOf refused line fault = IsFaultTold (λ k f. (k ≡ line) × (f ≡ fault)) refused
 
 -- a refusal of the reader, told by its line
-pub line_told : {A : Type 0} (kind : Kind) (bytes : List ℕ) (refused : TextFault) (line : ℕ) → IsTold (IsFirstFault (kind ∷ []) bytes) refused → ((l : ℕ) (f : Fault) → IsFirstFault (kind ∷ []) bytes l f → TellsOf refused l f)
+pub line_told : {A : Type 0} (kind : Kind) (bytes : List ℕ) (refused : TextFault) (line : ℕ) → IsFaultTold (IsFirstFault (kind ∷ []) bytes) refused → ((l : ℕ) (f : Fault) → IsFirstFault (kind ∷ []) bytes l f → TellsOf refused l f)
     → RefusesWhere {A = A} (IsFaultyText kind bytes line) (Line line) (Err (refusal_of refused))
 line_told kind bytes (Syntax k) line told tells = line_at kind bytes k line syntax.Syntax told (λ m. (tells line m.fault m.is_first).0)
 line_told kind bytes (UnknownMethod k) line told tells = line_at kind bytes k line syntax.UnknownMethod told (λ m. (tells line m.fault m.is_first).0)

@@ -1,6 +1,6 @@
 use Rattle.std.proofs.Common.{◌≡◌, false, [], sym, ◌∙◌}
 use Rattle.gx_base.specs.Kinds.{kind_number}
-use Rattle.cond_syntax.specs.Tokens.{tokens_of}
+use Rattle.cond_syntax.specs.Tokens.{tokens_in}
 use Rattle.cond_syntax.specs.Fronts.{front_of, all_known}
 use Rattle.cond_text.specs.Machine.{Operand}
 use Rattle.cond_syntax.proofs.CallerLemmas.{wrong_has_no_form}
@@ -12,7 +12,7 @@ pub returns-in-Ok : goal.returns-in-Ok
 returns-in-Ok c =
     let start = c.new-source.ensures in
     let read = c.in-Ok.ensures.whole in
-    let ts = tokens_of c.args.text.now in
+    let ts = tokens_in c.args.text.now in
     let kept : IsDraft (kind_number c.args.kind) read.0 c.in-Ok.draft = rw start.kind at read.1 in
     let known : all_known (kind_number c.args.kind) false (front_of ts) ≡ c.all_known.result = sym start.known ∙ c.in-Ok.ensures.later.known ∙ read.3 ∙ sym c.all_known.ensures in
     rw c.answer.ensures (whole_found c.args.kind ts read.0 c.in-Ok.draft c.all_known.result (sym (start.reads (Operand [])) ∙ read.2) kept known)
@@ -21,11 +21,11 @@ pub returns-in-Err-Cut : goal.returns-in-Err-Cut
 returns-in-Err-Cut c =
     let start = c.new-source.ensures in
     let read = rw c.in-Err-Cut.field-0-is at c.in-Err-Cut.ensures.whole in
-    let ts = tokens_of c.args.text.now in
+    let ts = tokens_in c.args.text.now in
     let known : all_known (kind_number c.args.kind) false (front_of ts) ≡ c.all_known-in-Err-Cut.result = sym start.known ∙ c.in-Err-Cut.ensures.later.known ∙ read.1 ∙ sym c.all_known-in-Err-Cut.ensures in
     rw c.answer-in-Err-Cut.ensures (cut_found c.args.kind ts c.all_known-in-Err-Cut.result (sym (start.reads (Operand [])) ∙ read.0) known)
 
 pub returns-in-Err-Wrong : goal.returns-in-Err-Wrong
 returns-in-Err-Wrong c =
     let read = rw c.in-Err-Wrong.field-0-is at c.in-Err-Wrong.ensures.whole in
-    wrong_has_no_form (tokens_of c.args.text.now) (sym (c.new-source.ensures.reads (Operand [])) ∙ read)
+    wrong_has_no_form (tokens_in c.args.text.now) (sym (c.new-source.ensures.reads (Operand [])) ∙ read)

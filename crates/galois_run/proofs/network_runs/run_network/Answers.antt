@@ -3,11 +3,11 @@ use Rattle.preflow_push.specs.Discharges.{plan_of}
 use Rattle.preflow_push.specs.Networks.{view}
 use Rattle.speculation.specs.ScheduledRuns.{AllBelow}
 use Rattle.galois_run.specs.RunFaults.{fault_of_limit}
-use Rattle.galois_run.proofs.meanings.NetworkPlays.{is_free, is_new, all_below, operator_by, is_played, is_past}
+use Rattle.galois_run.proofs.meanings.NetworkPlays.{rooms_unheld, is_new, all_below, operator_by, is_played, is_past}
 use Rattle.galois_run.proofs.network_runs.run_network.Goals as goal
 
 pub play-requires-clause-free : goal.play-requires-clause-free
-play-requires-clause-free c = is_free c.args.table.now (view c.args.net.now) c.in_ok-rooms.rooms c.in_ok-rooms.ensures
+play-requires-clause-free c = rooms_unheld c.args.table.now (view c.args.net.now) c.in_ok-rooms.rooms c.in_ok-rooms.ensures
 
 pub play-requires-clause-new : goal.play-requires-clause-new
 play-requires-clause-new c = is_new c.args.table.now (view c.args.net.now) c.in_ok-rooms.rooms (operator_by (plan_of c.in_ok-operator.operator)) refl refl c.in_ok-rooms.ensures

@@ -2,7 +2,7 @@ use Rattle.std.proofs.Common.{[], sym, ◌∙◌, ap, subst}
 use Rattle.commit_book.specs.BookViews.{BookView}
 use Rattle.rooms.specs.Values.{tells}
 use Rattle.rooms.specs.Visits.{Visits, view_of}
-use Rattle.session_cases.specs.Beginnings.{AreBegun}
+use Rattle.session_cases.specs.Beginnings.{MayBeginHere}
 use Rattle.session_cases.proofs.Beginning.{three_begin_as}
 use Rattle.session_cases.proofs.busy_cases.three_rooms.Goals as goal
 

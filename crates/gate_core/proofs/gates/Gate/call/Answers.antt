@@ -4,7 +4,7 @@ use Rattle.gx_base.specs.Kinds.{kind_number}
 use Rattle.gate_core.specs.declared.refusals.GateRefuse.TheVariants.{Conflict}
 use Rattle.gate_core.specs.Entries.{made_of}
 use Rattle.gate_core.specs.Views.{GateView, rows_of, live_start, asked_entry, in_way}
-use Rattle.gate_core.specs.CallAnswers.{IsAdmitted, TellsOf, RefusalFits}
+use Rattle.gate_core.specs.CallAnswers.{IsAdmitted, TellsOf, GateRefusalFits}
 use Rattle.gate_core.proofs.lists.EntryLists.{each_same}
 use Rattle.gate_core.proofs.deeds.Asking.{Asks, asks, lead_to, rooms_asked, told_of, taken_back, same_view, gate_same, gate_admits, admitted}
 use Rattle.gate_core.proofs.gates.Gate.call.Goals as goal
@@ -68,7 +68,7 @@ returns-in-Some-clause-err g c =
     let back : g.T.SeqType.state c.take_back.new.object ≡ v.state =
     taken_back v c.args.worker c.args.iter c.args.item c.args.call c.in_ok-asked.asked (g.T.SeqType.state c.ask.new.object) (g.T.SeqType.state c.conflict.new.object) (g.T.SeqType.state c.take_back.new.object) c.take_memory.new.live.entries.items
     c.self.invariant.lawful c.in_ok-asked.ensures.call a c.in-Some.ensures.state c.take_back.ensures.state in
-    subst (λ old. RefusalFits old (record v { state = g.T.SeqType.state c.take_back.new.object; done = c.take_memory.new.done.items; live = c.take_memory.new.live.entries.items }) c.args.worker c.args.iter c.args.item c.args.call (Conflict c.in-Some.told)) c.self.view_is
+    subst (λ old. GateRefusalFits old (record v { state = g.T.SeqType.state c.take_back.new.object; done = c.take_memory.new.done.items; live = c.take_memory.new.live.entries.items }) c.args.worker c.args.iter c.args.item c.args.call (Conflict c.in-Some.told)) c.self.view_is
     (told, same_view v (g.T.SeqType.state c.take_back.new.object) c.take_memory.new.done.items c.take_memory.new.live.entries.items back c.take_memory.ensures.done c.take_memory.ensures.live)
 
 pub returns-in-None-clause-ok : goal.returns-in-None-clause-ok

@@ -1,6 +1,6 @@
 use Rattle.std.proofs.Common.{List, [], ◌∷◌, ◌++◌, Some, sym, ◌∙◌, refl, subst, Ok, Err}
 use Rattle.gx_base.specs.declared.acts.Step.{Step}
-use Rattle.gate_core.specs.CallAnswers.{RefusalFits}
+use Rattle.gate_core.specs.CallAnswers.{GateRefusalFits}
 use Rattle.gate_core.specs.declared.refusals.GateRefuse.{GateRefuse}
 use Rattle.commit_book.specs.SerialRuns.{operator_of}
 use Rattle.iterate.specs.SessionViews.{core_of, view_of}
@@ -46,7 +46,7 @@ returns-in-Ok-clause-turn g c =
 pub returns-in-Conflict-clause-turn : goal.returns-in-Conflict-clause-turn
 returns-in-Conflict-clause-turn g c =
     let ask = asking_as c.args.room c.args.call c.args.self.now.phase c.requires.asking in
-    let refused = subst (λ (r : GateRefuse). RefusalFits c.in-Some.gate c.call.new.self c.args.self.now.worker c.args.self.now.iter c.args.self.now.item c.args.call r) c.in-Conflict.is c.in-Err.ensures.err in
+    let refused = subst (λ (r : GateRefuse). GateRefusalFits c.in-Some.gate c.call.new.self c.args.self.now.worker c.args.self.now.iter c.args.self.now.item c.args.call r) c.in-Conflict.is c.in-Err.ensures.err in
     let gave_up : GaveUp (g.R.Rooms.view c.leave_gate-in-Err.new.rooms) (g.R.Rooms.view c.give_up.new.rooms) (core_of c.args.self.now) (core_of c.give_up.new.self) c.give_up.new.self.phase =
     subst (λ (log : List Step). GaveUp (g.R.Rooms.view c.leave_gate-in-Err.new.rooms) (g.R.Rooms.view c.give_up.new.rooms) (record (core_of c.args.self.now) { log = log }) (core_of c.give_up.new.self) c.give_up.new.self.phase) c.reserve.ensures.items c.give_up.ensures.gave_up in
     shown (operator_of g.O.Operator c.args._op.now) (g.R.Rooms.view c.args.rooms.now) (g.R.Rooms.view c.give_up.new.rooms) (g.O.Operator.rest c.args._op.now) (core_of c.args.self.now) (core_of c.give_up.new.self) (core_of c.give_up.new.self) c.args.self.now.phase (code.Asking ask.0 c.args.room c.args.call) c.give_up.new.self.phase c.give_up.new.self.phase
@@ -57,7 +57,7 @@ returns-in-Conflict-clause-turn g c =
 
 pub returns-in-NoMemory-clause-turn : goal.returns-in-NoMemory-clause-turn
 returns-in-NoMemory-clause-turn g c =
-    let refused = subst (λ (r : GateRefuse). RefusalFits c.in-Some.gate c.call.new.self c.args.self.now.worker c.args.self.now.iter c.args.self.now.item c.args.call r) c.in-NoMemory.is c.in-Err.ensures.err in
+    let refused = subst (λ (r : GateRefuse). GateRefusalFits c.in-Some.gate c.call.new.self c.args.self.now.worker c.args.self.now.iter c.args.self.now.item c.args.call r) c.in-NoMemory.is c.in-Err.ensures.err in
     let ask = asking_as c.args.room c.args.call c.args.self.now.phase c.requires.asking in
     let gave_up : GaveUp (g.R.Rooms.view c.leave_gate-in-Err.new.rooms) (g.R.Rooms.view c.stop-in-NoMemory.new.rooms) (record (core_of c.args.self.now) { pushes = [] }) (core_of c.stop-in-NoMemory.new.self) c.stop-in-NoMemory.new.self.phase =
     subst (λ (log : List Step). GaveUp (g.R.Rooms.view c.leave_gate-in-Err.new.rooms) (g.R.Rooms.view c.stop-in-NoMemory.new.rooms) (record (core_of c.args.self.now) { log = log; pushes = [] }) (core_of c.stop-in-NoMemory.new.self) c.stop-in-NoMemory.new.self.phase) c.reserve.ensures.items c.stop-in-NoMemory.ensures.gave_up in

@@ -9,7 +9,7 @@ use Rattle.iterate.specs.declared.session.Phase.TheVariants as code
 use Rattle.iterate.proofs.ShownTurns.{shown}
 use Rattle.commit_book.specs.Homes as books
 use Rattle.iterate.proofs.NestedVisits.{entered_free, entered_below}
-use Rattle.iterate.proofs.UndoTurns.{over, in_range, is_free, undo_only, undo_only_lost, undo_only_busy, none_before_only}
+use Rattle.iterate.proofs.UndoTurns.{over, in_range, nothing_held, undo_only, undo_only_lost, undo_only_busy, none_before_only}
 use Rattle.iterate.proofs.session.Session.undo_only.Goals as goal
 
 pub undo_in-requires-clause-in_range : goal.undo_in-requires-clause-in_range
@@ -19,7 +19,7 @@ undo_in-requires-clause-in_range g c =
 pub undo_in-requires-clause-free : goal.undo_in-requires-clause-free
 undo_in-requires-clause-free g c =
     entered_free (g.R.Rooms.view c.args.rooms.now) (g.R.Rooms.view c.enter_book.new.rooms) (books.room_view c.in-Some.book) c.args.last.room c.in-Some.ensures.some (in_range (operator_of g.O.Operator c.args._op.now) (g.R.Rooms.view c.args.rooms.now) (g.R.Rooms.view c.args.rooms.now) (g.O.Operator.rest c.args._op.now) (core_of c.args.self.now) c.args.self.now.phase c.requires.phase c.requires.fit c.args.last c.requires.last)
-    (is_free (operator_of g.O.Operator c.args._op.now) (g.R.Rooms.view c.args.rooms.now) (g.R.Rooms.view c.args.rooms.now) (g.O.Operator.rest c.args._op.now) (core_of c.args.self.now) c.args.self.now.phase c.requires.phase c.requires.fit c.args.last.room)
+    (nothing_held (operator_of g.O.Operator c.args._op.now) (g.R.Rooms.view c.args.rooms.now) (g.R.Rooms.view c.args.rooms.now) (g.O.Operator.rest c.args._op.now) (core_of c.args.self.now) c.args.self.now.phase c.requires.phase c.requires.fit c.args.last.room)
 
 pub returns-then-not-undo_in-clause-turn : goal.returns-then-not-undo_in-clause-turn
 returns-then-not-undo_in-clause-turn g c =

@@ -2,7 +2,7 @@ use Rattle.std.proofs.Common.{FitsSigned, to_z, of_z, w64, rules, ◌∙◌}
 use Rattle.std.proofs.lemmas.Int.{to_z-of_z}
 use Rattle.gx_base.specs.PointKind.{may_add}
 use Rattle.kd_points.proofs.calls.Turns.{free_row, taken_row}
-use Rattle.kd_points.proofs.point_set.KdPoints.is_free.Goals as goal
+use Rattle.kd_points.proofs.point_set.KdPoints.may_be_added.Goals as goal
 
 pub returns-in-None : goal.returns-in-None
 returns-in-None c =
