@@ -2,7 +2,7 @@
 
 ghost use Rattle.std.specs.Prelude.{◌≤◌, ◌+◌};
 
-use crate::run_cases::{NETWORKS, NONE, run_words};
+use crate::run_cases::{NETWORKS, NONE, ends_so, run_words};
 use commit_book::{BodyLog, Commit, Worklist, commit_item};
 use galois_run::Status;
 use gx_base::Item;
@@ -93,10 +93,9 @@ t 8 1 undo 3 height 3 0 0 0
 t 9 1 undo 3 excess 3 0 0 0
 ";
 
-/// Whether `flow` on the diamond, with these words more, ends well and writes this.
+/// Whether these words on the diamond end well and write this.
 fn writes(alloc: Global, words: &[&str], wanted: &str) -> Result<bool, Fail> {
-    let run = run_words(alloc, words, DIAMOND, NONE)?;
-    Ok(run.status == Status::Ok && run.written.as_slice() == wanted.as_bytes())
+    ends_so(alloc, words, DIAMOND, NONE, Status::Ok, wanted)
 }
 
 #[test]
@@ -151,8 +150,7 @@ const REFUSED: [&[&str]; 13] = [
 #[test]
 fn words_that_are_no_options(rt: HostRuntime) -> Result<(), Fail> {
     for words in REFUSED {
-        let run = run_words(rt.alloc(), words, DIAMOND, NONE)?;
-        assert!(rt; run.status == Status::Usage && run.written.is_empty());
+        assert!(rt; ends_so(rt.alloc(), words, DIAMOND, NONE, Status::Usage, "")?);
     }
     Ok(())
 }
@@ -212,7 +210,10 @@ fn printed(alloc: Global, written: &[u8]) -> Result<Printed, Fail> {
         rest = more;
         match line.strip_prefix(b"c i ".as_slice()) {
             Some(digits) => order.push(commit_of(printed_number(digits)?))?,
-            None => return Ok(Printed { order, value: printed_value(line)? }),
+            None => return Ok(Printed {
+                order,
+                value: printed_value(line)?,
+            }),
         }
     }
     Err("no value".into())
