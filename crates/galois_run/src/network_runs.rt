@@ -1,6 +1,6 @@
 //! The run of a network by virtual workers over gates.
 
-ghost use Rattle.std.specs.Prelude.{◌≡◌, ◌≤◌, ℕ, Err, IfOk, map, slice_get, [], false};
+ghost use Rattle.std.specs.Prelude.{◌≡◌, ◌≤◌, ◌++◌, ℕ, Err, IfOk, map, slice_get, [], false};
 ghost use Rattle.gx_base.specs.declared.inputs.What.{What};
 ghost use Rattle.galois_run.specs.declared.run_faults.RunFault.TheVariants as faults;
 ghost use Rattle.galois_run.specs.declared.status.TableFault.{TableFault};
@@ -9,6 +9,7 @@ ghost use Rattle.flow_graph.specs.FlowState.{state_of};
 ghost use Rattle.preflow_push.specs.Networks.{view};
 ghost use Rattle.speculation.specs.Limits.{Limit};
 ghost use Rattle.iterate.specs.EventViews.{turns_of};
+ghost use Rattle.traces.specs.Traces.{trace_text};
 ghost use Rattle.galois_run.specs.RunFaults.{fault_of_limit};
 ghost use Rattle.galois_run.specs.NetworkRuns.{ServesGates, AreRoomsOf, IsNetworkPlayed, gates_over, states_in, last_book};
 ghost use Rattle.galois_run.specs.commands.Flow.{IsReportOf, IsRunPast, new_gate};
@@ -19,7 +20,7 @@ use commit_book::Book;
 use flow_graph::FlowShard;
 use gate_core::Gate;
 use gx_base::{Kind, NoMemory, Table};
-use iterate::{Played, play};
+use iterate::{Played, Turn, play};
 use preflow_push::{Discharge, Network, report, start};
 use rooms::{Value, VecRooms};
 use schedules::schedule;
@@ -114,6 +115,15 @@ fn taken_out(
     Ok((shards, last))
 }
 
+/// A report with the lines of a run's turns after it that are wanted.
+fn with_turns(report: Vec<u8>, trace: &[Turn], options: RunOptions) -> Result<Vec<u8>, NoMemory>
+    ensures { IfOk result (λ text. text.items ≡ report.items ++ trace_text (record { turns = options.trace; told = options.told }) (turns_of trace.now)) }
+{
+    let mut text = report;
+    put_trace(&mut text, trace, options.trace, options.told)?;
+    Ok(text)
+}
+
 /// The report of a network's run, with the lines of its turns that are wanted.
 pub(crate) fn report_played(
     alloc: Global,
@@ -127,7 +137,6 @@ pub(crate) fn report_played(
 {
     let Played { values, trace } = played;
     let (shards, book) = taken_out(alloc, values)?;
-    let mut text = report(alloc, net, book.commits(), &shards)?;
-    put_trace(&mut text, &trace, options.trace, options.told)?;
-    Ok(text)
+    let lines = report(alloc, net, book.commits(), &shards)?;
+    Ok(with_turns(lines, &trace, options)?)
 }

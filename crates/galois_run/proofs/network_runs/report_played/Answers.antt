@@ -12,8 +12,8 @@ use Rattle.galois_run.proofs.network_runs.report_played.Goals as goal
 
 pub returns : goal.returns
 returns c =
-    is_report c.args.options c.args.table.now (view c.args.net.now) (turns_of c.args.played.trace.items) c.args.played.values.items c.commits.result.now (map state_of c.in_ok-shards.shards.items) c.in_ok-text.text.items c.put_trace.new.text.items
+    is_report c.args.options c.args.table.now (view c.args.net.now) (turns_of c.args.played.trace.items) c.args.played.values.items c.commits.result.now (map state_of c.in_ok-shards.shards.items) c.in_ok-lines.lines.items c.in_ok-with_turns.field-0.items
     c.requires c.in_ok-shards.ensures.shards
     (c.commits.ensures.commits ∙ ap (λ book. all_counted book.commits) c.in_ok-shards.ensures.book)
-    (c.in_ok-text.ensures ∙ ap (λ shards. flow_report (view c.args.net.now) (items_of c.commits.result.now) (in_rooms (map state_of shards))) c.deref.ensures.value)
-    (c.in_ok-put_trace.ensures ∙ ap (λ trace. c.in_ok-text.text.items ++ trace_text (record { turns = c.args.options.trace; told = c.args.options.told }) (turns_of trace)) c.deref-2.ensures.value)
+    (c.in_ok-lines.ensures ∙ ap (λ shards. flow_report (view c.args.net.now) (items_of c.commits.result.now) (in_rooms (map state_of shards))) c.deref.ensures.value)
+    (c.in_ok-with_turns.ensures ∙ ap (λ trace. c.in_ok-lines.lines.items ++ trace_text (record { turns = c.args.options.trace; told = c.args.options.told }) (turns_of trace)) c.deref-2.ensures.value)
