@@ -1,0 +1,13 @@
+pub mod Counts
+pub mod Items
+pub mod Calls
+pub mod Takings
+pub mod Runs
+pub mod Keys
+pub mod Chains
+pub mod Merges
+pub mod Clouds
+pub mod Bodies
+pub mod Beginnings
+pub mod Ends
+pub mod RunLaws

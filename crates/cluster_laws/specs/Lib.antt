@@ -1,0 +1,2 @@
+pub mod MutualPairs
+pub mod ClusterRuns

@@ -1,0 +1,28 @@
+//! Laws of the runs of the cluster program, over definitions alone. A caller of one of these functions, which do nothing,
+//! may use what it ensures.
+
+ghost use Rattle.std.specs.Prelude.{ℕ, ◌<◌, List, [], length};
+ghost use Rattle.gx_base.specs.declared.calls.Spot.{Spot};
+ghost use Rattle.gx_base.specs.declared.items.Item.{Item};
+ghost use Rattle.gx_base.specs.Outcomes.{WholeCommit, order_of, outcomes_of};
+ghost use Rattle.gx_base.specs.SerialIterations.{Ended};
+ghost use Rattle.gx_base.specs.States.{State};
+ghost use Rattle.clustering.specs.PointFiles.{IsReadable};
+ghost use Rattle.cluster_laws.specs.ClusterRuns.{IsRunOn, MergesMutualPairs, IsUnbounded, EndsInOne};
+
+/// A commit takes out no point, or two. Then each of the two was the nearest one to the other in the state before it.
+pub fn merged_points_are_mutually_nearest()
+    ensures { (spots : List Spot) (commits : List WholeCommit) (ended : Ended) → IsRunOn spots commits ended → MergesMutualPairs spots commits }
+{}
+
+/// The keys of the pairs along a chain fall, so a chain ends at two points that are each other's nearest. Wherever a run
+/// on the points of a file has come to, the bound on the calls of `nearest` isn't what would end a body there.
+pub fn bodies_end_by_themselves()
+    ensures { (bytes : List ℕ) (spots : List Spot) (commits : List WholeCommit) (ended : Ended) → IsReadable bytes spots → IsRunOn spots commits ended → (item : Item) → IsUnbounded (length spots) item ended.states }
+{}
+
+/// A whole run on the points of a file that has one ends in one point, whose weight is the number of the points.
+pub fn whole_runs_end_in_one_point()
+    ensures { (bytes : List ℕ) (spots : List Spot) (commits : List WholeCommit) (after : ℕ → State) → IsReadable bytes spots → 0 < length spots
+        → IsRunOn spots commits (record { states = after; ready = []; outcomes = outcomes_of commits }) → EndsInOne (length spots) (order_of commits) after }
+{}
