@@ -32,10 +32,6 @@ pub new_as : (ordered : Bool) (items first ready : List Item) (holds : List Hold
     → IsLawfulBook (record { ordered = ordered; first_ready = first; ready = ready; holds = holds; commits = commits })
 new_as ordered items first ready holds commits p q r s = subst IsLawfulBook (sym (new_same ordered items first ready holds commits p q r s)) (new_lawful ordered items)
 
-pub with_none : with_items [] [] ≡ []
-unfolding with_items
-with_none = refl
-
 -- nothing is ready in a book without items, so nothing commits
 pub none_ready : (item : Item) → has_item (with_items [] []) item ≡ false
 unfolding with_items has_item
