@@ -1,8 +1,13 @@
 pub mod RunTables
-pub mod FlowRuns
-pub mod FlowAnswers
 pub mod ModeTexts
 pub mod ClassifyAnswers
 pub mod LimitedRuns
-pub mod NetworkRooms
-pub mod NetworkPlays
+pub mod LoopRooms
+pub mod LoopPlays
+pub mod LoopLaws
+pub mod LoopLimits
+pub mod LoopAnswers
+pub mod FlowLaws
+pub mod ConditionTexts
+pub mod ClusterTables
+pub mod ClusterLaws

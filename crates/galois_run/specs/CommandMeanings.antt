@@ -1,15 +1,17 @@
 -- The meaning of each command.
 use Rattle.galois_run.specs.declared.words.Command.{Command}
-use Rattle.galois_run.specs.declared.words.Command.TheVariants.{Flow, Classify, Help, Version}
+use Rattle.galois_run.specs.declared.words.Command.TheVariants.{Flow, Cluster, Classify, Help, Version}
 use Rattle.galois_run.specs.declared.options.RunOptions.{RunOptions}
 use Rattle.galois_run.specs.Words.{Planned}
 use Rattle.galois_run.specs.CommandMeaning.{CommandMeaning}
 use Rattle.galois_run.specs.commands.Flow.{flow_meaning}
+use Rattle.galois_run.specs.commands.Cluster.{cluster_meaning}
 use Rattle.galois_run.specs.commands.Classify.{classify_meaning}
 use Rattle.galois_run.specs.commands.About.{help_text, version_text, told_meaning}
 
 abbrev pub meaning_by : Command → RunOptions → CommandMeaning
 meaning_by Flow options = flow_meaning options
+meaning_by Cluster options = cluster_meaning options
 meaning_by Classify options = classify_meaning
 meaning_by Help options = told_meaning help_text
 meaning_by Version options = told_meaning version_text

@@ -4,8 +4,10 @@ pub mod RunTables
 pub mod Words
 pub mod Inputs
 pub mod CommandMeaning
+pub mod LoopRuns
+pub mod LoopCommands
+pub mod LoopRooms
 pub mod commands
 pub mod CommandMeanings
-pub mod NetworkRuns
 pub mod RunFaults
 pub mod RunTurns

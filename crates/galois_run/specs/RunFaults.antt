@@ -33,6 +33,15 @@ fault_of_text (Twice line) = BadInput line
 fault_of_text (TooDeep line) = BadInput line
 fault_of_text NoMemoryForText = NoMemory
 
+-- the same of the text of a user's conditions
+abbrev pub fault_of_conditions : TextFault → RunFault
+fault_of_conditions (Syntax line) = BadTable (Line line)
+fault_of_conditions (UnknownMethod line) = BadTable (Line line)
+fault_of_conditions (UnknownName line) = BadTable (Line line)
+fault_of_conditions (Twice line) = BadTable (Line line)
+fault_of_conditions (TooDeep line) = BadTable (Line line)
+fault_of_conditions NoMemoryForText = NoMemory
+
 -- what a reader of the file refuses it for
 abbrev pub fault_of_input : InputFault → RunFault
 fault_of_input (inputs.Line line) = BadInput line

@@ -1,7 +1,7 @@
 -- The words of a command line.
 use Rattle.std.specs.Prelude.{◌≡◌, ℕ, if◌then◌else◌, List, [], ◌∷◌, Option, Some, None, option_map, codes, bytes_eq, string_bytes}
 use Rattle.galois_run.specs.declared.words.Command.{Command}
-use Rattle.galois_run.specs.declared.words.Command.TheVariants.{Flow, Classify, Help, Version}
+use Rattle.galois_run.specs.declared.words.Command.TheVariants.{Flow, Cluster, Classify, Help, Version}
 use Rattle.galois_run.specs.declared.words.Plan.{Plan}
 use Rattle.galois_run.specs.declared.options.RunOptions.{RunOptions}
 use Rattle.galois_run.specs.RunOptions.{value_of, is_plain, options_by, options_of}
@@ -26,6 +26,7 @@ on_main command file words options = record { command = command; main = Some fil
 abbrev pub command_of : List ℕ → Option Command
 command_of word =
     if bytes_eq word (codes "flow") then Some Flow
+    else if bytes_eq word (codes "cluster") then Some Cluster
     else if bytes_eq word (codes "classify") then Some Classify
     else None
 
@@ -39,6 +40,7 @@ lone_command word =
 -- the options that words are for a command. One that runs nothing has none
 abbrev pub options_for : Command → List (List ℕ) → Option RunOptions
 options_for Flow words = options_of words
+options_for Cluster words = options_of words
 options_for command [] = Some (options_by [])
 options_for command (word ∷ words) = None
 

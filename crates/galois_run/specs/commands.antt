@@ -1,4 +1,5 @@
 pub mod Flow
+pub mod Cluster
 pub mod ModeLines
 pub mod Classify
 pub mod About

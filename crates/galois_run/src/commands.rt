@@ -2,6 +2,7 @@
 
 pub mod about;
 pub mod classify;
+pub mod cluster;
 pub mod flow;
 mod mode_lines;
 
@@ -16,6 +17,7 @@ use crate::run_faults::RunFault;
 use crate::words::{Command, Plan};
 use about::{report_help, report_version};
 use classify::report_classes;
+use cluster::report_cluster;
 use flow::report_flow;
 use std::alloc::Global;
 
@@ -30,6 +32,7 @@ pub(crate) fn report_of(
 {
     match plan.command() {
         Command::Flow => report_flow(alloc, plan.options(), inputs),
+        Command::Cluster => report_cluster(alloc, plan.options(), inputs),
         Command::Classify => report_classes(alloc, inputs),
         Command::Help => report_help(alloc),
         Command::Version => report_version(alloc),

@@ -5,8 +5,11 @@
 //! command does.
 #![tactic(auto)]
 
+mod cloud_runs;
+mod cloud_tables;
 mod commands;
 mod inputs;
+mod loop_runs;
 mod network_runs;
 mod options;
 mod run;

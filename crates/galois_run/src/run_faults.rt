@@ -1,7 +1,7 @@
 //! Why a command makes no report on its inputs.
 
 use crate::status::{Status, TableFault};
-use gx_base::{NoMemory, What};
+use gx_base::{InputFault, NoMemory, What};
 use gx_io::WholeRefuse;
 use iterate::Stop;
 use table_choice::TableRefuse;
@@ -48,6 +48,21 @@ impl From<TableRefuse> for RunFault {
                 why: TableFault::Pair { first, second },
             },
             TableRefuse::NoMemory => RunFault::NoMemory,
+        }
+    }
+}
+
+impl From<InputFault> for RunFault {
+    ghost use Rattle.std.specs.Prelude.{◌≡◌};
+    ghost use Rattle.galois_run.specs.RunFaults.{fault_of_input};
+
+    ghost from_gives = { λ refused fault. fault ≡ fault_of_input refused };
+
+    fn from(refused: InputFault) -> RunFault {
+        match refused {
+            InputFault::Line(line) => RunFault::BadInput { line },
+            InputFault::Large(what) => RunFault::TooLarge { what },
+            InputFault::NoMemory => RunFault::NoMemory,
         }
     }
 }

@@ -1,37 +1,39 @@
 //! The tables of the gates of a run.
 
-ghost use Rattle.std.specs.Prelude.{◌≡◌, true, IfOk, IfErr, OnOk, option_map};
+ghost use Rattle.std.specs.Prelude.{◌≡◌, ◌≢◌, true, IsTrue, IfOk, IfErr, OnOk, option_map};
+ghost use Rattle.gx_base.specs.declared.kinds.Choice.{Choice};
 ghost use Rattle.gx_base.specs.Kinds.{kind_number};
 ghost use Rattle.gx_base.specs.Methods.{is_method};
+ghost use Rattle.gx_base.specs.ShippedTables.{rows_chosen};
 ghost use Rattle.gx_base.specs.TableRows.{row_of};
+ghost use Rattle.cond_lattice.specs.declared.grades.Grade.TheVariants.{General};
+ghost use Rattle.cond_lattice.specs.Grades.{table_grade};
 ghost use Rattle.galois_run.specs.RunFaults.{FaultsWhere};
-ghost use Rattle.galois_run.specs.RunTables.{GainsRows, IsWholeTable, TellsTable};
-ghost use Rattle.galois_run.specs.NetworkRuns.{ServesGates};
-ghost use Rattle.galois_run.specs.commands.Flow.{IsRunTable, IsBadTable};
+ghost use Rattle.galois_run.specs.RunTables.{GainsRows, IsWholeTable, TellsTable, ServesGates, IsRunTable, IsBadTable};
 ghost use Rattle.galois_run.specs.declared.run_faults.RunFault.TheVariants as faults;
 ghost use Rattle.galois_run.specs.declared.status.TableFault.{TableFault};
 
 use crate::run_faults::RunFault;
-use flow_graph::FlowShard;
-use gx_base::{Choice, Kind, NoMemory, Table, method_at};
-use kind_tables::laws::only_precise_domains_are_general;
+use gx_base::{Choice, Kind, NoMemory, SeqType, Table, method_at};
 use std::alloc::Global;
 use table_choice::table_of_run;
 
-/// The table of the gates of a run: that of a user's conditions, where there are some, and else the shipped one.
-pub(crate) fn run_table(
+/// The table of a kind's gates in a run: that of a user's conditions, where there are some, and else the shipped one.
+pub(crate) fn run_table<T: SeqType>(
     alloc: Global,
+    kind: Kind,
     choice: Choice,
     conditions: Option<&[u8]>,
 ) -> Result<Table, RunFault>
-    ensures table { IfOk result (IsRunTable choice (option_map (λ conditions. conditions.now) conditions.entry)) }
-    ensures serves { IfOk result ServesGates }
-    ensures bad_table { (why : TableFault) → FaultsWhere (IsBadTable (option_map (λ conditions. conditions.now) conditions.entry) why) (faults.BadTable why) result }
+    requires held { IsTrue (T.holds_kind kind) }
+    requires scanned { (shipped : Choice) → table_grade (kind_number kind) (rows_chosen (T.tables kind) shipped) ≢ General }
+    ensures table { IfOk result (IsRunTable kind (T.tables kind) choice (option_map (λ conditions. conditions.now) conditions.entry)) }
+    ensures serves { IfOk result (ServesGates kind) }
+    ensures bad_table { (why : TableFault) → FaultsWhere (IsBadTable kind (T.tables kind) (option_map (λ conditions. conditions.now) conditions.entry) why) (faults.BadTable why) result }
     ensures no_others { IfErr result TellsTable }
 {
-    only_precise_domains_are_general();
-    match table_of_run::<FlowShard>(alloc, Kind::Flow, choice, conditions) {
-        Ok(rows) => Ok(whole_table(alloc, Kind::Flow, &rows)?),
+    match table_of_run::<T>(alloc, kind, choice, conditions) {
+        Ok(rows) => Ok(whole_table(alloc, kind, &rows)?),
         Err(refused) => Err(RunFault::from(refused)),
     }
 }

@@ -11,6 +11,8 @@ use std::alloc::{AllocError, Global};
 pub enum Command {
     /// Runs preflow-push on the network of a file.
     Flow,
+    /// Clusters the points of a file.
+    Cluster,
     /// Tells the classes of a table's rows.
     Classify,
     /// Tells how the program is called.
@@ -48,6 +50,7 @@ fn command_named(word: &str) -> Option<Command>
 {
     match word {
         "flow" => Some(Command::Flow),
+        "cluster" => Some(Command::Cluster),
         "classify" => Some(Command::Classify),
         _ => None,
     }
@@ -70,7 +73,7 @@ fn options_for(command: Command, words: &[String]) -> Option<RunOptions>
     ensures workers { IfSome result (λ options. 1 ≤ options.workers) }
 {
     match command {
-        Command::Flow => read_options(words),
+        Command::Flow | Command::Cluster => read_options(words),
         Command::Classify | Command::Help | Command::Version => no_options(words),
     }
 }

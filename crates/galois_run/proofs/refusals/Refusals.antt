@@ -2,20 +2,18 @@
 use Rattle.std.proofs.Common.{◌≡◌, ◌≢◌, inl, inr, ℕ, true, List, Option, Some, None, IfSome, IsSomeAnd, Result, Ok, Err, Vec, refl, ap, subst, arith}
 use Rattle.std.specs.Global.{Global}
 use Rattle.gx_base.specs.declared.inputs.What.{What}
-use Rattle.gx_base.specs.declared.inputs.What.TheVariants.{File, Nodes, Arcs, Points, Nets, Horizon, Size}
-use Rattle.preflow_push.specs.Networks.{Net}
-use Rattle.preflow_push.specs.FlowLimits.{Passes}
 use Rattle.galois_run.specs.declared.run_faults.RunFault.{RunFault}
 use Rattle.galois_run.specs.declared.run_faults.RunFault.TheVariants.{BadTable, BadInput, TooLarge, Spent, Kept, NoMemory}
 use Rattle.galois_run.specs.declared.status.Status.{Status}
 use Rattle.galois_run.specs.declared.status.TableFault.{TableFault}
 use Rattle.galois_run.specs.declared.status.Status.TheVariants as statuses
 use Rattle.galois_run.specs.declared.words.Command.{Command}
-use Rattle.galois_run.specs.declared.words.Command.TheVariants.{Flow, Classify, Help, Version}
+use Rattle.galois_run.specs.declared.words.Command.TheVariants.{Flow, Cluster, Classify, Help, Version}
 use Rattle.galois_run.specs.CommandMeanings.{meaning_by}
-use Rattle.galois_run.specs.Inputs.{Inputs, IsWithinLength, IsTooLong, AreWithinLength, HasTooLong}
+use Rattle.galois_run.specs.Inputs.{Inputs, main_of, IsWithinLength, IsTooLong, AreWithinLength, HasTooLong}
 use Rattle.galois_run.specs.CommandMeaning.{CommandMeaning}
-use Rattle.galois_run.specs.commands.Flow.{IsNetworkLimit}
+use Rattle.galois_run.specs.commands.Flow.{flow_command}
+use Rattle.galois_run.specs.commands.Cluster.{cluster_command}
 use Rattle.cond_syntax.proofs.CallerLemmas.{no_fault_of_a_table}
 use Rattle.speculation.specs.Limits.{Limit}
 use Rattle.speculation.specs.Limits as limits
@@ -23,9 +21,10 @@ use Rattle.cond_syntax.specs.TableTexts.{all_kinds}
 use Rattle.galois_run.specs.declared.options.RunOptions.{RunOptions}
 use Rattle.galois_run.specs.RunFaults.{fault_of_limit, status_of_fault, FaultsWhere, Answers}
 use Rattle.galois_run.specs.RunTurns.{ComesWhere, PassesLimit, status_of_limit, IsCaused, IsAnswer, Completes, writes}
-use Rattle.galois_run.proofs.meanings.FlowAnswers.{read_or_faulty, read_or_large}
-use Rattle.galois_run.proofs.meanings.FlowRuns.{stays_or_passes}
-use Rattle.galois_run.proofs.meanings.RunTables.{fault_is_told}
+use Rattle.galois_run.proofs.meanings.ClusterLaws.{cluster_laws}
+use Rattle.galois_run.proofs.meanings.FlowLaws.{flow_laws}
+use Rattle.galois_run.proofs.meanings.LoopLaws.{read_or_faulty, read_or_large}
+use Rattle.galois_run.proofs.meanings.LoopLimits.{stays_or_passes}
 
 -- ---- where a report is made, there is no cause for a refusal
 
@@ -178,35 +177,30 @@ written_by_held meaning (Some inputs) status w caused = written_caused meaning i
 
 -- ---- what is told, whatever the files tell
 
-passed_limit : (net : Net) (what : What) → Passes net what → IsNetworkLimit what
-passed_limit net Nodes p = inl refl
-passed_limit net Arcs p = inr refl
-passed_limit net File p = absurd p
-passed_limit net Points p = absurd p
-passed_limit net Nets p = absurd p
-passed_limit net Horizon p = absurd p
-passed_limit net Size p = absurd p
-
 fault_of_conditions : (command : Command) (options : RunOptions) (inputs : Inputs) (why : TableFault) → (meaning_by command options).bad_table inputs why → (meaning_by command options).faults why
-fault_of_conditions Flow options inputs why bad = fault_is_told inputs.conditions why bad
+fault_of_conditions Flow options inputs why bad = flow_laws.fault_is_told inputs.conditions why bad
+fault_of_conditions Cluster options inputs why bad = cluster_laws.fault_is_told inputs.conditions why bad
 fault_of_conditions Classify options inputs why bad = bad
 fault_of_conditions Help options inputs why bad = bad
 fault_of_conditions Version options inputs why bad = bad
 
 line_told : (command : Command) (options : RunOptions) (inputs : Inputs) (line : ℕ) → (meaning_by command options).malformed inputs line → (meaning_by command options).lines line
-line_told Flow options inputs line m = m.1.from_one
+line_told Flow options inputs line m = flow_laws.line_is_told (main_of inputs) line m.1
+line_told Cluster options inputs line m = cluster_laws.line_is_told (main_of inputs) line m.1
 line_told Classify options inputs line m = m.is_first.from_one
 line_told Help options inputs line m = m
 line_told Version options inputs line m = m
 
 limit_told : (command : Command) (options : RunOptions) (inputs : Inputs) (what : What) → (meaning_by command options).too_large inputs what → (meaning_by command options).limits what
-limit_told Flow options inputs what l = passed_limit l.1.net what l.1.passes
+limit_told Flow options inputs what l = flow_laws.limit_is_told (main_of inputs) what l.1
+limit_told Cluster options inputs what l = cluster_laws.limit_is_told (main_of inputs) what l.1
 limit_told Classify options inputs what l = absurd l
 limit_told Help options inputs what l = l
 limit_told Version options inputs what l = l
 
 run_on_told : (command : Command) (options : RunOptions) (inputs : Inputs) (limit : Limit) → (meaning_by command options).passes inputs limit → (meaning_by command options).runs_on
 run_on_told Flow options inputs limit p = tt
+run_on_told Cluster options inputs limit p = tt
 run_on_told Classify options inputs limit p = p
 run_on_told Help options inputs limit p = p
 run_on_told Version options inputs limit p = p
@@ -223,24 +217,28 @@ fault_told command options inputs NoMemory answers = tt
 
 no_bad_table : (command : Command) (options : RunOptions) (inputs : Inputs) (why : TableFault) → (meaning_by command options).ends inputs → (meaning_by command options).bad_table inputs why → ⊥
 no_bad_table Flow options inputs why e bad = e.are_accepted why bad
+no_bad_table Cluster options inputs why e bad = e.are_accepted why bad
 no_bad_table Classify options inputs why e bad = bad
 no_bad_table Help options inputs why e bad = bad
 no_bad_table Version options inputs why e bad = bad
 
 no_line : (command : Command) (options : RunOptions) (inputs : Inputs) (line : ℕ) → (meaning_by command options).ends inputs → (meaning_by command options).malformed inputs line → ⊥
-no_line Flow options inputs line e m = read_or_faulty _ e.net line e.is_read m.1
+no_line Flow options inputs line e m = read_or_faulty flow_command flow_laws (main_of inputs) e.input line e.is_read m.1
+no_line Cluster options inputs line e m = read_or_faulty cluster_command cluster_laws (main_of inputs) e.input line e.is_read m.1
 no_line Classify options inputs line e m = no_fault_of_a_table all_kinds _ e.kind e.rows line m.fault e.is_table m.is_first
 no_line Help options inputs line e m = m
 no_line Version options inputs line e m = m
 
 no_large : (command : Command) (options : RunOptions) (inputs : Inputs) (what : What) → (meaning_by command options).ends inputs → (meaning_by command options).too_large inputs what → ⊥
-no_large Flow options inputs what e l = read_or_large _ e.net what e.is_read l.1
+no_large Flow options inputs what e l = read_or_large flow_command flow_laws (main_of inputs) e.input what e.is_read l.1
+no_large Cluster options inputs what e l = read_or_large cluster_command cluster_laws (main_of inputs) e.input what e.is_read l.1
 no_large Classify options inputs what e l = l
 no_large Help options inputs what e l = l
 no_large Version options inputs what e l = l
 
 no_past : (command : Command) (options : RunOptions) (inputs : Inputs) (limit : Limit) → (meaning_by command options).ends inputs → (meaning_by command options).passes inputs limit → ⊥
-no_past Flow options inputs limit e p = stays_or_passes options inputs.conditions _ limit e p
+no_past Flow options inputs limit e p = stays_or_passes flow_command flow_laws options inputs.conditions (main_of inputs) limit e p
+no_past Cluster options inputs limit e p = stays_or_passes cluster_command cluster_laws options inputs.conditions (main_of inputs) limit e p
 no_past Classify options inputs limit e p = p
 no_past Help options inputs limit e p = p
 no_past Version options inputs limit e p = p

@@ -11,6 +11,8 @@ help_lines =
     ∷ codes "Commands:"
     ∷ codes "  flow FILE       run preflow-push on the network in FILE, and write the order of"
     ∷ codes "                  the commits and the flow that they leave"
+    ∷ codes "  cluster FILE    merge the points in FILE, two nearest ones at a time, and write the"
+    ∷ codes "                  order of the commits, the merges and the point that is left"
     ∷ codes "  classify FILE   read the table of conditions in FILE, and write the class of"
     ∷ codes "                  each of its rows, and the lock modes that keep it"
     ∷ codes "  --help          write this text"
@@ -18,7 +20,7 @@ help_lines =
     ∷ codes ""
     ∷ codes "FILE is a word that isn't empty and doesn't begin with --."
     ∷ codes ""
-    ∷ codes "Options of flow, in any order, each at most once:"
+    ∷ codes "Options of flow and of cluster, in any order, each at most once:"
     ∷ codes "  --virtual N     how many virtual workers run it, from 1 to 64; default 1"
     ∷ codes "  --turns N       how many turns are scheduled, from 0 to 1000000; default 0"
     ∷ codes "  --seed N        the seed of the schedule, 1 to 18 digits; default 0"
@@ -41,7 +43,7 @@ help_lines =
     ∷ codes "      some of the output may have been written"
     ∷ codes "  5   galois: no memory"
     ∷ codes "  6   galois: too large: WHAT"
-    ∷ codes "      the file, or its nodes or arcs, are more than may be"
+    ∷ codes "      the file, or its nodes, arcs or points, are more than may be"
     ∷ codes "  7   galois: spent"
     ∷ codes "      4194304 items have committed, and another would"
     ∷ codes "  8   galois: kept"
@@ -53,6 +55,7 @@ help_lines =
     ∷ codes "Examples:"
     ∷ codes "  galois flow examples/four-nodes.max"
     ∷ codes "  galois flow examples/conflict.max --virtual 2 --turns 22 --trace on"
+    ∷ codes "  galois cluster examples/square.points"
     ∷ []
 
 abbrev pub help_text : List ℕ

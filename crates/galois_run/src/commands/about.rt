@@ -15,6 +15,8 @@ const HELP: &str = concat!(
     "Commands:\n",
     "  flow FILE       run preflow-push on the network in FILE, and write the order of\n",
     "                  the commits and the flow that they leave\n",
+    "  cluster FILE    merge the points in FILE, two nearest ones at a time, and write the\n",
+    "                  order of the commits, the merges and the point that is left\n",
     "  classify FILE   read the table of conditions in FILE, and write the class of\n",
     "                  each of its rows, and the lock modes that keep it\n",
     "  --help          write this text\n",
@@ -22,7 +24,7 @@ const HELP: &str = concat!(
     "\n",
     "FILE is a word that isn't empty and doesn't begin with --.\n",
     "\n",
-    "Options of flow, in any order, each at most once:\n",
+    "Options of flow and of cluster, in any order, each at most once:\n",
     "  --virtual N     how many virtual workers run it, from 1 to 64; default 1\n",
     "  --turns N       how many turns are scheduled, from 0 to 1000000; default 0\n",
     "  --seed N        the seed of the schedule, 1 to 18 digits; default 0\n",
@@ -45,7 +47,7 @@ const HELP: &str = concat!(
     "      some of the output may have been written\n",
     "  5   galois: no memory\n",
     "  6   galois: too large: WHAT\n",
-    "      the file, or its nodes or arcs, are more than may be\n",
+    "      the file, or its nodes, arcs or points, are more than may be\n",
     "  7   galois: spent\n",
     "      4194304 items have committed, and another would\n",
     "  8   galois: kept\n",
@@ -57,6 +59,7 @@ const HELP: &str = concat!(
     "Examples:\n",
     "  galois flow examples/four-nodes.max\n",
     "  galois flow examples/conflict.max --virtual 2 --turns 22 --trace on\n",
+    "  galois cluster examples/square.points\n",
 );
 
 /// The name and the version of the program.

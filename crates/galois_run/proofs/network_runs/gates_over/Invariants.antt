@@ -1,8 +1,0 @@
-use Rattle.std.proofs.Common.{◌≡◌, map}
-use Rattle.flow_graph.specs.FlowState.{state_of}
-use Rattle.galois_run.specs.NetworkRuns.{gates_over}
-use Rattle.galois_run.proofs.network_runs.gates_over.Given as goal
-
--- the shards so far have their gates
-abbrev pub invariant-loop-shard : goal.invariant-loop-shard
-invariant-loop-shard l = l.values.items ≡ gates_over l.table (map state_of l.yielded)
