@@ -1,4 +1,4 @@
-use Rattle.std.proofs.Common.{ℕ, length, Result, sym, subst, ap, ◌∙◌}
+use Rattle.std.proofs.Common.{◌≡◌, ℕ, length, Result, sym, subst, ap, ◌∙◌}
 use Rattle.commit_book.specs.declared.refusals.CommitRefuse.{CommitRefuse}
 use Rattle.commit_book.specs.BookViews.{BookView}
 use Rattle.commit_book.specs.LawfulBooks.{IsRefusedBy, refusal}
