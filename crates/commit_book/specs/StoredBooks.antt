@@ -1,11 +1,17 @@
--- How a book's holds and its past are kept, as contracts see them.
-use Rattle.std.specs.Prelude.{◌≡◌, ℕ, false, List, [], ◌∷◌, length, take, drop, ◌≤◌}
+-- How a book, its holds and its past are kept, as contracts see them.
+use Rattle.std.specs.Prelude.{◌≡◌, ℕ, false, Option, Some, None, List, [], ◌∷◌, length, take, drop, ◌≤◌}
+use Rattle.std.specs.Global.{Box}
 use Rattle.gx_base.specs.declared.acts.Commit.{Commit}
 use Rattle.gx_base.specs.declared.acts.Step.{Step}
 use Rattle.gx_base.specs.declared.items.Item.{Item}
 use Rattle.gx_base.specs.Outcomes.{WholeCommit}
 use Rattle.commit_book.specs.declared.holds.Holder.{Holder}
-use Rattle.commit_book.specs.BookViews.{Hold}
+use Rattle.commit_book.specs.BookViews.{Hold, BookView, new_book}
+
+-- a book without items is kept as nothing
+abbrev pub book_with : Option (Box BookView) → BookView
+book_with None = new_book false []
+book_with (Some ledger) = ledger.value
 
 -- holds are kept by their items
 abbrev pub hold_at : Item × Holder → Hold

@@ -15,6 +15,7 @@ mod book;
 mod holds;
 mod homes;
 pub mod laws;
+mod ledger;
 mod limits;
 mod operator;
 mod past;

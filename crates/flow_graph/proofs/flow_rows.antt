@@ -1,3 +1,4 @@
 pub mod RowLaws
 pub mod Writes
 pub mod Rooms
+pub mod Unwritten

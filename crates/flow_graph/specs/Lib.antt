@@ -1,3 +1,4 @@
 pub mod Uses
 pub mod FlowRows
+pub mod FlowNumbers
 pub mod FlowState

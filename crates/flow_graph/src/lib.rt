@@ -7,6 +7,7 @@
 #![tactic(auto)]
 
 pub mod laws;
+mod numbers;
 mod shard;
 mod shipping;
 mod uses;

@@ -7,23 +7,22 @@ ghost use Rattle.gx_base.specs.ShippedTables.{IsShipped};
 ghost use Rattle.gx_base.specs.States.{number_at, with_number};
 ghost use Rattle.gx_base.specs.Meanings.{number_reply as reply_of};
 ghost use Rattle.kind_tables.specs.TablesOfKinds.{tables_of};
-ghost use Rattle.number_rows.specs.NumberRows.{IsLean, dead_rows};
 ghost use Rattle.flow_graph.specs.Uses.{sort_of};
-ghost use Rattle.flow_graph.specs.FlowState.{state_of, sorted, has_row_in, has_room_in, IsLeanShard};
+ghost use Rattle.flow_graph.specs.FlowState.{state_of, has_row_in, has_room_in, IsUnwritten, IsLeanIn, IsLeanShard, dead_in};
 
+use crate::numbers::FlowNumbers;
 use crate::shipping::flow_table;
 use crate::uses::{Quantity, use_of};
 use gx_base::{Call, Choice, Kind, NoMemory, Reply, SeqType, Table};
 use kind_tables::register_rows::Deed;
-use number_rows::NumberRows;
 use std::alloc::Global;
 
 /// The heights and the excesses of nodes and the flows of arcs, which are all 0 until they are written.
 #[derive(Drop)]
 pub struct FlowShard {
-    heights: NumberRows,
-    excesses: NumberRows,
-    flows: NumberRows,
+    alloc: Global,
+    // Behind a pointer, since a shard is moved with the gate over it at each call. None before the first write.
+    numbers: Option<Box<FlowNumbers>>,
 }
 
 impl FlowShard {
@@ -32,9 +31,8 @@ impl FlowShard {
         ensures { state_of result ≡ record { kind = kind_number Flow; rows = map.empty } }
     {
         FlowShard {
-            heights: NumberRows::new(alloc),
-            excesses: NumberRows::new(alloc),
-            flows: NumberRows::new(alloc),
+            alloc,
+            numbers: None,
         }
     }
 
@@ -62,20 +60,18 @@ impl FlowShard {
     fn value(&self, quantity: Quantity, key: i64) -> i64
         ensures { result ≡ number_at (state_of self.now) (sort_of quantity, key) }
     {
-        match quantity {
-            Quantity::Height => self.heights.value(key),
-            Quantity::Excess => self.excesses.value(key),
-            Quantity::Flow => self.flows.value(key),
+        match &self.numbers {
+            Some(numbers) => numbers.value(quantity, key),
+            None => 0,
         }
     }
 
     fn has_row(&self, quantity: Quantity, key: i64) -> bool
         ensures { result ≡ has_row_in self.now (sort_of quantity) key }
     {
-        match quantity {
-            Quantity::Height => self.heights.has_row(key),
-            Quantity::Excess => self.excesses.has_row(key),
-            Quantity::Flow => self.flows.has_row(key),
+        match &self.numbers {
+            Some(numbers) => numbers.has_row(quantity, key),
+            None => false,
         }
     }
 
@@ -85,11 +81,25 @@ impl FlowShard {
         ensures room { OnOk result (IsTrue (has_row_in self.new (sort_of quantity) key)) }
         ensures kept { (made : Made) → IsTrue (has_room_in self.old made) → IsTrue (has_room_in self.new made) }
     {
-        match quantity {
-            Quantity::Height => self.heights.write(key, number),
-            Quantity::Excess => self.excesses.write(key, number),
-            Quantity::Flow => self.flows.write(key, number),
+        match &mut self.numbers {
+            Some(numbers) => numbers.write(quantity, key, number),
+            None => self.write_first(quantity, key, number),
         }
+    }
+
+    // Writes the first number of a shard.
+    fn write_first(&mut self, quantity: Quantity, key: i64, number: i64) -> Result<(), NoMemory>
+        requires none { IsUnwritten self.old }
+        ensures ok { OnOk result (state_of self.new ≡ with_number (state_of self.old) (sort_of quantity, key) number) }
+        ensures err { OnErr result (self.new ≡ self.old) }
+        ensures room { OnOk result (IsTrue (has_row_in self.new (sort_of quantity) key)) }
+        ensures kept { (made : Made) → IsTrue (has_room_in self.old made) → IsTrue (has_room_in self.new made) }
+    {
+        let mut numbers = FlowNumbers::new(self.alloc);
+        numbers.write(quantity, key, number)?;
+        let boxed = Box::new(self.alloc, numbers)?;
+        self.numbers = Some(boxed);
+        Ok(())
     }
 
     fn rewrite(&mut self, quantity: Quantity, key: i64, number: i64)
@@ -97,22 +107,22 @@ impl FlowShard {
         ensures state { state_of self.new ≡ with_number (state_of self.old) (sort_of quantity, key) number }
         ensures kept { (made : Made) → IsTrue (has_room_in self.old made) → IsTrue (has_room_in self.new made) }
     {
-        match quantity {
-            Quantity::Height => self.heights.rewrite(key, number),
-            Quantity::Excess => self.excesses.rewrite(key, number),
-            Quantity::Flow => self.flows.rewrite(key, number),
+        match &mut self.numbers {
+            Some(numbers) => numbers.rewrite(quantity, key, number),
+            None => {}
         }
     }
 
     fn tidy_rows(&mut self)
         ensures state { state_of self.new ≡ state_of self.old }
         ensures lean { IsLeanShard self.new }
-        ensures dropped { (sort : ℕ) → ¬ (IsLean (sorted self.old sort)) → dead_rows (sorted self.new sort) ≡ 0 }
+        ensures dropped { (sort : ℕ) → ¬ (IsLeanIn self.old sort) → dead_in self.new sort ≡ 0 }
         ensures idle { IsLeanShard self.old → self.new ≡ self.old }
     {
-        self.heights.tidy();
-        self.excesses.tidy();
-        self.flows.tidy();
+        match &mut self.numbers {
+            Some(numbers) => numbers.tidy(),
+            None => {}
+        }
     }
 }
 
@@ -206,7 +216,7 @@ impl SeqType for FlowShard {
         ensures state { state_of self.new ≡ state_of self.old }
         ensures succeeds { IsOk result }
         ensures lean { IsLeanShard self.new }
-        ensures dropped { (sort : ℕ) → ¬ (IsLean (sorted self.old sort)) → dead_rows (sorted self.new sort) ≡ 0 }
+        ensures dropped { (sort : ℕ) → ¬ (IsLeanIn self.old sort) → dead_in self.new sort ≡ 0 }
         ensures idle { IsLeanShard self.old → self.new ≡ self.old }
     {
         self.tidy_rows();

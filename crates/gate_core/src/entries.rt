@@ -4,6 +4,7 @@ ghost use Rattle.gate_core.specs.LastPlaces.{IsLastPlace};
 
 use gx_base::Entry;
 
+#[inline(always)]
 pub(crate) fn is_entry_of(entry: &Entry, worker: u32, iter: u64) -> bool
     ensures { result ≡ is_of worker iter entry.now }
 {

@@ -120,6 +120,7 @@ impl<T: SeqType, S: Screen<T>> Gate<T, S> {
 
     /// Does a call, unless an uncommitted entry of another iteration is in its way. Where there is none of
     /// another iteration, that takes no longer in a gate with many entries than in one with few.
+    #[inline(always)]
     pub fn call(
         &mut self,
         worker: u32,
@@ -184,6 +185,7 @@ impl<T: SeqType, S: Screen<T>> Gate<T, S> {
 }
 
 // Takes the memory for one more entry. An object that no live call needs as it is tidies itself first.
+#[inline(always)]
 fn take_memory<T: SeqType>(
     object: &mut T,
     done: &mut Vec<Entry>,
@@ -207,6 +209,7 @@ fn take_memory<T: SeqType>(
 }
 
 // The object does the call, once the screen has room for it. The entry has what it replied and saw.
+#[inline(always)]
 fn ask<T: SeqType, S: Screen<T>>(
     object: &mut T,
     screen: &mut S,
@@ -225,7 +228,7 @@ fn ask<T: SeqType, S: Screen<T>>(
     ensures entries { (entries : List Entry) → S.stands_for screen.old entries → S.stands_for screen.new entries }
     ensures same { (kind : ℕ) (table : RowMap) → S.suits screen.old kind table ↔ S.suits screen.new kind table }
 {
-    let asked = Entry {
+    let mut asked = Entry {
         worker,
         iter,
         item,
@@ -240,8 +243,8 @@ fn ask<T: SeqType, S: Screen<T>>(
         done: None,
     };
     screen.make_room(&asked)?;
-    let reply = object.apply(call)?;
-    Ok(Entry { reply, ..asked })
+    asked.reply = object.apply(call)?;
+    Ok(asked)
 }
 
 fn take_back<T: SeqType>(object: &mut T, entry: &Entry)
@@ -254,6 +257,7 @@ fn take_back<T: SeqType>(object: &mut T, entry: &Entry)
 
 // The first live entry that is in the way of a call, which the object has done. No entry of its own iteration
 // is, so an iteration that is alone asks no screen.
+#[inline(always)]
 fn conflict<T: SeqType, S: Screen<T>>(
     object: &mut T,
     screen: &mut S,

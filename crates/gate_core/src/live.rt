@@ -31,6 +31,7 @@ impl LiveEntries {
     }
 
     /// Whether no other iteration has an entry here.
+    #[inline(always)]
     pub(crate) fn are_all_of(&self, worker: u32, iter: u64) -> bool
         ensures { IsTrue result ↔ (others_than worker iter self.now.entries.items ≡ []) }
     {
@@ -43,6 +44,7 @@ impl LiveEntries {
     }
 
     /// Takes the memory for one more entry.
+    #[inline(always)]
     pub(crate) fn reserve_one(&mut self) -> Result<(), AllocError>
         ensures items { self.new.entries.items ≡ self.old.entries.items }
         ensures room { OnOk result (vec_len self.new.entries + 1 ≤ vec_capacity self.new.entries) }
@@ -50,6 +52,7 @@ impl LiveEntries {
         self.entries.reserve(1)
     }
 
+    #[inline(always)]
     pub(crate) fn push_reserved(&mut self, entry: Entry)
         requires { vec_len self.old.entries < vec_capacity self.old.entries }
         ensures items { self.new.entries.items ≡ self.old.entries.items ++ entry ∷ [] }
@@ -81,6 +84,7 @@ impl LiveEntries {
 }
 
 // 1 for an entry of another iteration than the first of these.
+#[inline(always)]
 fn other_than_first(entries: &[Entry], entry: &Entry) -> usize
     ensures { result ≡ one_if_other entries.now entry.now }
 {

@@ -23,12 +23,12 @@ const KEYS: i64 = 6;
 
 /// Numbers that follow from a seed.
 #[derive(Drop)]
-pub(crate) struct Draws {
-    pub(crate) state: u64,
+struct Draws {
+    state: u64,
 }
 
 impl Draws {
-    pub(crate) fn below(&mut self, end: u64) -> u64
+    fn below(&mut self, end: u64) -> u64
         requires { 0 < end }
         ensures { result < end }
     {
@@ -88,7 +88,7 @@ fn agrees(outcome: Result<Reply, GateRefuse>, asked: LiveCall, way: Option<LiveC
 }
 
 /// One of three methods with a key and a number.
-pub(crate) fn drawn_call(draws: &mut Draws, first_method: u32) -> Call
+fn drawn_call(draws: &mut Draws, first_method: u32) -> Call
     requires { first_method < 100 }
 {
     let method = first_method + draws.below(3) as u32;

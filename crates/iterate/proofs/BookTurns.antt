@@ -6,7 +6,7 @@ use Rattle.gx_base.specs.Plans.{Operator}
 use Rattle.gx_base.specs.RoomViews.{RoomView}
 use Rattle.commit_book.specs.BookViews.{BookView}
 use Rattle.speculation.specs.Machines.{Place}
-use Rattle.rooms.specs.RoomsViews.{RoomsView, entered, left, is_held}
+use Rattle.rooms.specs.RoomsViews.{RoomsView, visited, entered, left, is_held}
 use Rattle.rooms.specs.HandedOut.{IsHandedOut, IsLost}
 use Rattle.rooms.specs.Values.{tells}
 use Rattle.rooms.specs.declared.values.Value.{Value}
@@ -17,7 +17,7 @@ use Rattle.iterate.specs.declared.events.Stop.{Stop}
 use Rattle.iterate.specs.Needs.{needs}
 use Rattle.iterate.specs.Places.{IsLogOf, IsFit, AreStepsWithin, IsFitIn, IsBody, IfTold, book_of, IsBookIn, StandsOn}
 use Rattle.iterate.specs.SessionViews.{OpenCommit, SessionView}
-use Rattle.iterate.specs.Turns.{Answers, TakesTurn}
+use Rattle.iterate.specs.Turns.{Answers, HasMoved, TakesTurn}
 use Rattle.iterate.specs.Visits.{BookWasVisited}
 use Rattle.iterate.proofs.Standing.{AreLeft, fits, told_book, told_book_itself, base_place, base_stands}
 use Rattle.iterate.proofs.Visiting.{SameGates, entered_gates, lost_gates, book_gates, then_same, none_left}
@@ -36,12 +36,12 @@ module _ {T S : Type 0} where
 
   -- ---- the book was entered and left
 
-  pub book_visited : (a x b : RoomsView (Value T S)) (was left_as now : BookView) → IsHandedOut tells a a.book (Book was) → x ≡ entered a a.book (tells {T = T} {S = S} (Book was)) → b ≡ left tells x x.book (Book left_as) → left_as ≡ now
+  pub book_visited : (a x b : RoomsView (Value T S)) (was left_as now : BookView) → IsHandedOut tells a a.book (Book was) → x ≡ entered tells a a.book (Book was) → b ≡ left tells x x.book (Book left_as) → left_as ≡ now
       → BookWasVisited a b was now
   book_visited a x b was left_as now handed enters leaves same = record { handed = handed; visit = leaves ∙ (λ i. left tells (enters i) (enters i).book (Book (same i))) }
 
   module _ (a b : RoomsView (Value T S)) (was now : BookView) (visit : BookWasVisited a b was now) where
-    field_of : {A : Type 0} → (f : RoomsView (Value T S) → A) → f b ≡ f (left tells (entered a a.book (tells {T = T} {S = S} (Book was))) a.book (Book now))
+    field_of : {A : Type 0} → (f : RoomsView (Value T S) → A) → f b ≡ f (left tells (entered tells a a.book (Book was)) a.book (Book now))
     field_of f = ap f visit.visit
 
     pub was_ordered : was.ordered ≡ a.ordered
@@ -49,14 +49,17 @@ module _ {T S : Type 0} where
 
     pub book_visit_gates : now.ordered ≡ was.ordered → SameGates a b
     book_visit_gates o =
-        let x : RoomsView (Value T S) = entered a a.book (tells {T = T} {S = S} (Book was)) in
-        subst (SameGates a) (sym visit.visit) (then_same a x (left tells x a.book (Book now)) (entered_gates a a.book (tells {T = T} {S = S} (Book was))) (book_gates x now (o ∙ was_ordered)))
+        let x : RoomsView (Value T S) = entered tells a a.book (Book was) in
+        subst (SameGates a) (sym visit.visit) (then_same a x (left tells x a.book (Book now)) (entered_gates a a.book (Book was)) (book_gates x now (o ∙ was_ordered)))
 
     pub book_visit_free : Free a → Free b
     book_visit_free free room = ap (λ (f : ℕ → Option RoomView). is_some (f room)) (field_of (λ v. v.held)) ∙ held_again a.held a.book (tells {T = T} {S = S} (Book was)) free room
 
     pub book_visit_lost : (room : ℕ) → b.lost room ≡ a.lost room
     book_visit_lost room = field_of (λ v. v.lost room)
+
+    pub book_visit_moves : b.moves ≡ visited a.book (Book was) (Book now) a.moves
+    book_visit_moves = field_of (λ v. v.moves)
 
     pub book_visit_told : IfTold (b.told b.book) (λ value. now ≡ book_of value)
     book_visit_told =
@@ -88,12 +91,13 @@ module _ {T S : Type 0} where
     are_left : AreLeft a b s t (book_place a s was) after_place
     are_left = none_left a b s t (book_place a s was) after_place (book_visit_gates a b was now visit now_ordered) refl log
 
-    pub book_turn : (r : Result CodeEvent Stop) → Answers op a.book s t (book_place a s was) (record { gates = (book_place a s was).gates; book = now; session = t.at }) None r → TakesTurn op a b s t r
-    book_turn r answers = record {
+    pub book_turn : (r : Result CodeEvent Stop) → Answers op a.book s t (book_place a s was) (record { gates = (book_place a s was).gates; book = now; session = t.at }) None r
+        → HasMoved a.book s (book_place a s was) (record { gates = (book_place a s was).gates; book = now; session = t.at }) None r a.moves b.moves → TakesTurn op a b s t r
+    book_turn r answers moved = record {
       has_turned =
           turned op a b s t (book_place a s was) after_place are_left (book_stands op a s was fit none visit.handed) fit same refl
           (subst (λ (o : Option OpenCommit). IsBookIn b o now) (sym then_none) (book_visit_told a b was now visit)) (now_ordered ∙ was_ordered a b was now visit)
-          None (no_loss a b s (book_visit_lost a b was now visit)) r answers;
+          None (no_loss a b s (book_visit_lost a b was now visit)) r answers moved;
       is_fit =
           fits a b s t (book_place a s was) after_place are_left fit.acts same op fit within
           (subst (IsFitIn op b t) (sym then_none) (book_visit_free a b was now visit (free_of op a s fit none), body));
@@ -115,12 +119,13 @@ module _ {T S : Type 0} where
         let h : IsBookIn a None (base_place a s).book = subst (λ (o : Option OpenCommit). IsBookIn a o (base_place a s).book) none (base_stands op a s fit none).book in
         subst (λ (v : RoomsView (Value T S)). IsBookIn v None (base_place a s).book) (sym loss.same) h
 
-    pub lost_turn : (r : Result CodeEvent Stop) → Answers op a.book s t (base_place a s) (record (base_place a s) { session = t.at }) (Some room) r → TakesTurn op a b s t r
-    lost_turn r answers = record {
+    pub lost_turn : (r : Result CodeEvent Stop) → Answers op a.book s t (base_place a s) (record (base_place a s) { session = t.at }) (Some room) r
+        → HasMoved a.book s (base_place a s) (record (base_place a s) { session = t.at }) (Some room) r a.moves b.moves → TakesTurn op a b s t r
+    lost_turn r answers moved = record {
       has_turned =
           turned op a b s t (base_place a s) lost_place lost_left (base_stands op a s fit none) fit same refl
           (subst (λ (o : Option OpenCommit). IsBookIn b o (base_place a s).book) (sym then_none) lost_book) (base_stands op a s fit none).ordered
-          (Some room) (one_loss a b s room loss needed) r answers;
+          (Some room) (one_loss a b s room loss needed) r answers moved;
       is_fit =
           fits a b s t (base_place a s) lost_place lost_left fit.acts same op fit within
           (subst (IsFitIn op b t) (sym then_none) ((λ other. ap (λ (v : RoomsView (Value T S)). is_held v other) loss.same ∙ free_of op a s fit none other), body));

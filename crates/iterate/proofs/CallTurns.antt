@@ -20,9 +20,10 @@ use Rattle.speculation.specs.Machines.{Place, Turned, answer, conflict, live_at,
 use Rattle.speculation.specs.Sessions.{Running, undoing, undone_to, with_call, has_no_step}
 use Rattle.speculation.proofs.Putting.{no_bool, both_are, same_number}
 use Rattle.speculation.proofs.GateTurns.{log_admits, log_elsewhere}
-use Rattle.rooms.specs.RoomsViews.{RoomsView, is_held}
+use Rattle.rooms.specs.RoomsViews.{RoomsView, visited}
 use Rattle.rooms.specs.HandedOut.{IsLost}
 use Rattle.rooms.specs.declared.values.Value.{Value}
+use Rattle.rooms.specs.declared.values.Value.TheVariants.{Object}
 use Rattle.rooms.proofs.CallerLemmas.{put_same}
 use Rattle.iterate.specs.declared.events.Event.{Event as CodeEvent}
 use Rattle.iterate.specs.declared.events.Event.TheVariants as events
@@ -30,19 +31,20 @@ use Rattle.iterate.specs.declared.events.Stop.TheVariants as stops
 use Rattle.iterate.specs.declared.session.Phase.{Phase as CodePhase}
 use Rattle.iterate.specs.declared.session.Phase.TheVariants as code
 use Rattle.iterate.specs.Bodies.{HasAsked, IsNoted}
-use Rattle.iterate.specs.Needs.{needs, to_put_back}
+use Rattle.iterate.specs.Needs.{gone_on, needs, to_put_back}
 use Rattle.iterate.specs.Places.{IsLogOf, IsFit, AreStepsWithin, IsBookIn, StandsOn}
 use Rattle.iterate.specs.SessionViews.{OpenCommit, Rests, Core, SessionView, view_in}
 use Rattle.iterate.specs.SharedTurns.{Shared, cut_at, stays}
+use Rattle.iterate.specs.TurnMoves.{puts_back, WasWanting, in_no_room, in_gate}
 use Rattle.iterate.specs.Turns.{TakesTurn, TellsRight, IsAfter, event_of, is_conflict}
 use Rattle.iterate.specs.Visits.{WasVisited, GaveUp}
 use Rattle.iterate.proofs.Logs.{log_sound, sound_log, others_admit}
 use Rattle.iterate.proofs.Standing.{base_place, base_gates, base_book_in, base_stands}
 use Rattle.iterate.proofs.Visiting.{same_gates, other_than_book}
-use Rattle.iterate.proofs.Turning.{whole, no_loss, some_number}
+use Rattle.iterate.proofs.Turning.{whole, no_loss, lost_moves, some_number}
 use Rattle.iterate.proofs.BookTurns.{free_of, body_of, lost_turn}
-use Rattle.iterate.proofs.GateVisits.{gate_stands, gate_turn, gate_log, gate_visit_free, gate_visit_lost, gate_visit_book}
-use Rattle.iterate.proofs.GivingUp.{Quiet, quiet_visit, gave_up_turn}
+use Rattle.iterate.proofs.GateVisits.{gate_stands, gate_turn, gate_log, visited_at, gate_visit_free, gate_visit_lost, gate_visit_moves, gate_visit_book}
+use Rattle.iterate.proofs.GivingUp.{Quiet, quiet_itself, quiet_visit, gave_up_turn}
 use Rattle.iterate.proofs.UndoTurns.{over, or_left, or_right, unless_true, where_true}
 
 abbrev pub asked_call : ℕ → CallOf → Option (ℕ × CallOf)
@@ -93,18 +95,26 @@ stands_with op a s fit none bk in_book o = record {
 
 -- a running session stops for want of memory
 module _ {T S St : Type 0} (op : Operator) (a x b : RoomsView (Value T S)) (rest : Rests St) (c : Core) (s : SessionView) (plan : Plan) (asked : Option ℕ)
-    (is : s ≡ record { worker = c.worker; at = record { phase = Running plan; iter = c.iter; item = c.item; outcome = record { steps = c.log; pushes = c.pushes; withdrawn = [] }; next_iter = c.next_iter }; asked = asked; opened = None; pushed = c.pushed }) where
+    (is : s ≡ record { worker = c.worker; at = record { phase = Running plan; iter = c.iter; item = c.item; outcome = record { steps = c.log; pushes = c.pushes; withdrawn = [] }; next_iter = c.next_iter }; asked = asked; opened = None; pushed = c.pushed }) (gates : ℕ → GateView)
+    (stand : (bk : BookView) → IsBookIn a None bk → bk.ordered ≡ a.ordered → StandsOn a s (record { gates = gates; book = bk; session = s.at })) where
   abbrev running : SessionView
   running = record { worker = c.worker; at = record { phase = Running plan; iter = c.iter; item = c.item; outcome = record { steps = c.log; pushes = c.pushes; withdrawn = [] }; next_iter = c.next_iter }; asked = asked; opened = None; pushed = c.pushed }
 
   abbrev none_pushed : Core
   none_pushed = record c { pushes = [] }
 
-  stopped_running : IsFit op a running → Quiet a x → (has_no_step c.log ≡ true → needs a.book running a.book ≡ true) → (new : Core) (phase : CodePhase St) → GaveUp x b none_pushed new phase → TakesTurn op a b running (view_in rest new phase) (Err stops.NoMemory)
-  stopped_running fit quiet needed new phase gave_up =
-      let undone : BookView → Place = λ bk. record { gates = base_gates a; book = bk; session = undone_to running.at c.log } in
-      let p : BookView → Place = λ bk. record { gates = base_gates a; book = bk; session = running.at } in
-      gave_up_turn op a x b rest running none_pushed quiet fit refl refl (base_gates a) (λ bk in_book o. stands_with op a running fit refl bk in_book o) (λ r es h. h) fit.within needed none_pushed new phase refl gave_up (Err stops.NoMemory)
+  -- what becomes of the book's room, and where memory was wanting
+  abbrev pub Wanting : Type 0
+  Wanting = (lost : Option ℕ) (bk now : BookView) → b.moves ≡ puts_back a.book gates gates bk now c.log lost x.moves → WasWanting a.book gates gates bk now (gone_on running.at).phase c.log lost a.moves b.moves
+
+  stands : (bk : BookView) → IsBookIn a None bk → bk.ordered ≡ a.ordered → StandsOn a running (record { gates = gates; book = bk; session = running.at })
+  stands bk in_book o = subst (λ (v : SessionView). StandsOn a v (record { gates = gates; book = bk; session = v.at })) is (stand bk in_book o)
+
+  stopped_running : IsFit op a running → Quiet a x → (has_no_step c.log ≡ true → needs a.book running a.book ≡ true) → Wanting → (new : Core) (phase : CodePhase St) → GaveUp x b none_pushed new phase → TakesTurn op a b running (view_in rest new phase) (Err stops.NoMemory)
+  stopped_running fit quiet needed wanting new phase gave_up =
+      let undone : BookView → Place = λ bk. record { gates = gates; book = bk; session = undone_to running.at c.log } in
+      let p : BookView → Place = λ bk. record { gates = gates; book = bk; session = running.at } in
+      gave_up_turn op a x b rest running none_pushed quiet fit refl refl gates stands (λ r es h. h) fit.within needed none_pushed new phase refl gave_up (Err stops.NoMemory)
       (λ n. record {
         may = refl;
         cause = tt;
@@ -115,11 +125,12 @@ module _ {T S St : Type 0} (op : Operator) (a x b : RoomsView (Value T S)) (rest
       })
       (λ bk n o. record { may = refl; cause = tt; held = λ r e. absurd (cc); place_is = sym (where_true (has_no_step c.log) (let_go (p bk) c.worker running.at) (undone bk) n); opened_is = refl; pushed_is = refl })
       (λ n. record { may = refl; cause = tt; held = λ r e. sym (some_number e); place_is = refl; opened_is = refl; pushed_is = refl })
+      (λ lost bk now t e. wanting lost bk now e)
 
-  pub stopped_turn : IsFit op a s → Quiet a x → (has_no_step c.log ≡ true → needs a.book s a.book ≡ true) → (new : Core) (phase : CodePhase St) → GaveUp x b none_pushed new phase → TakesTurn op a b s (view_in rest new phase) (Err stops.NoMemory)
-  stopped_turn fit quiet needed new phase gave_up =
+  pub stopped_turn : IsFit op a s → Quiet a x → (has_no_step c.log ≡ true → needs a.book s a.book ≡ true) → Wanting → (new : Core) (phase : CodePhase St) → GaveUp x b none_pushed new phase → TakesTurn op a b s (view_in rest new phase) (Err stops.NoMemory)
+  stopped_turn fit quiet needed wanting new phase gave_up =
       subst (λ (v : SessionView). TakesTurn op a b v (view_in rest new phase) (Err stops.NoMemory)) (sym is)
-      (stopped_running (subst (IsFit op a) is fit) quiet (λ n. subst (λ (v : SessionView). needs a.book v a.book ≡ true) is (needed n)) new phase gave_up)
+      (stopped_running (subst (IsFit op a) is fit) quiet (λ n. subst (λ (v : SessionView). needs a.book v a.book ≡ true) is (needed n)) wanting new phase gave_up)
 
 module _ {T S St : Type 0} (op : Operator) (a b : RoomsView (Value T S)) (rest : Rests St) (c : Core) (st : St) (room : ℕ) (call : CallOf) where
   abbrev asking : SessionView
@@ -170,7 +181,7 @@ module _ {T S St : Type 0} (op : Operator) (a b : RoomsView (Value T S)) (rest :
         subst (λ (x : Shared). IsAfter x event.Busy asking (base_place a asking)) (sym shared) (record { event_is = refl; place_is = refl; opened_is = refl; pushed_is = refl }),
         tt,
         (λ e. absurd (no_bool (a.book == room) e (not_book fit))),
-      )
+      ) (lost_moves a b room loss)
 
   -- ---- the call was done
 
@@ -206,12 +217,18 @@ module _ {T S St : Type 0} (op : Operator) (a b : RoomsView (Value T S)) (rest :
       (Ok (events.Call room call reply))
       (whole op a b s t (at gates bk) q u (events.Call room call reply) (asks gates bk None (subst (λ (g : GateView). in_way g (entry_in g) ≡ None) here free)) refl (λ i. event.Call room call (reply_to (here i).state call))
       (λ i. record { gates = put gates room (admit (here i) c.worker c.iter c.item call); book = bk; session = with_call s.at room call goes_on (reply_to (here i).state call) }) refl refl refl tt)
+      (gate_visit_moves a b room was now visit ∙ visited_at a room was now a.moves)
 
   pub call_turn : IsFit op a asking → (was now : GateView) (reply : Reply) → WasVisited a b room was now → in_way was (entry_in was) ≡ None → reply ≡ reply_to was.state call → now ≡ admit was c.worker c.iter c.item call
       → TakesTurn op a b asking (view_in rest (noted c room call reply) (code.Running st (Some reply))) (Ok (events.Call room call reply))
   call_turn fit was now reply visit free replied admitted =
       subst (λ r. TakesTurn op a b asking (view_in rest (noted c room call r) (code.Running st (Some r))) (Ok (events.Call room call r))) (sym replied)
       (call_as_made fit was (subst (WasVisited a b room was) admitted visit) free)
+
+  -- ---- the gate was left as it was
+
+  as_it_was : (x : RoomsView (Value T S)) (was : GateView) → WasVisited a x room was was → x.moves ≡ visited room (Object (put (base_gates a) room was room)) (Object (put (base_gates a) room was room)) a.moves
+  as_it_was x was visit = gate_visit_moves a x room was was visit ∙ (λ i. visited room (Object (sym (put_same (base_gates a) room was) i)) (Object (sym (put_same (base_gates a) room was) i)) a.moves)
 
   -- ---- the call is in conflict
 
@@ -263,18 +280,18 @@ module _ {T S St : Type 0} (op : Operator) (a b : RoomsView (Value T S)) (rest :
         right (base_book_in a None),
         (λ k. ap (λ (y : Turned). is_conflict y.event) (turns (base_book_in a None))),
       ))
+      (λ lost bk now t m. m ∙ ap (puts_back a.book gates gates bk now c.log lost) (as_it_was x was visit))
 
   -- ---- memory is wanting
 
-  pub stop_turn : (x : RoomsView (Value T S)) (new : Core) (phase : CodePhase St) → IsFit op a asking → Quiet a x → GaveUp x b (record c { pushes = [] }) new phase → TakesTurn op a b asking (view_in rest new phase) (Err stops.NoMemory)
-  stop_turn x new phase fit quiet gave_up = stopped_turn op a x b rest c asking plan (Some room) refl fit quiet needs_book new phase gave_up
+  pub stop_turn : (new : Core) (phase : CodePhase St) → IsFit op a asking → GaveUp a b (record c { pushes = [] }) new phase → TakesTurn op a b asking (view_in rest new phase) (Err stops.NoMemory)
+  stop_turn new phase fit gave_up =
+      stopped_turn op a a b rest c asking plan (Some room) refl (base_gates a) (λ bk in_book o. stands_with op a asking fit refl bk in_book o) fit (quiet_itself a (free_of op a asking fit refl)) needs_book
+      (λ lost bk now e. in_no_room e) new phase gave_up
 
--- what a session that has asked a call holds, and where its call is
-pub asking_free : {T S St : Type 0} (op : Operator) (a : RoomsView (Value T S)) (rest : Rests St) (c : Core) (f : CodePhase St) (st : St) (room : ℕ) (call : CallOf) → f ≡ code.Asking st room call → IsFit op a (view_in rest c f)
-    → (other : ℕ) → is_held a other ≡ false
-asking_free op a rest c f st room call e fit = free_of op a (view_in rest c (code.Asking st room call)) (subst (λ x. IsFit op a (view_in rest c x)) e fit) refl
-
-pub asking_below : {T S St : Type 0} (op : Operator) (a : RoomsView (Value T S)) (rest : Rests St) (c : Core) (f : CodePhase St) (st : St) (room : ℕ) (call : CallOf) → f ≡ code.Asking st room call → IsFit op a (view_in rest c f) → room < a.book
-asking_below op a rest c f st room call e fit =
-    let h : IsFit op a (view_in rest c (code.Asking st room call)) = subst (λ x. IsFit op a (view_in rest c x)) e fit in
-    subst (λ n. room < n) (sym h.book) (body_of op a (view_in rest c (code.Asking st room call)) h refl).1
+  pub stop_in_gate : (x : RoomsView (Value T S)) (new : Core) (phase : CodePhase St) → IsFit op a asking → (was : GateView) → WasVisited a x room was was → GaveUp x b (record c { pushes = [] }) new phase → TakesTurn op a b asking (view_in rest new phase) (Err stops.NoMemory)
+  stop_in_gate x new phase fit was visit gave_up =
+      let gates : ℕ → GateView = put (base_gates a) room was in
+      stopped_turn op a x b rest c asking plan (Some room) refl gates (λ bk in_book o. gate_stands op a a asking room was (same_gates a) visit.handed fit refl (below fit) bk in_book o) fit
+      (quiet_visit a x room was visit (below fit) (free_of op a asking fit refl)) needs_book
+      (λ lost bk now e. in_gate room (same_number room) (e ∙ ap (puts_back a.book gates gates bk now c.log lost) (as_it_was x was visit))) new phase gave_up

@@ -31,7 +31,8 @@ use Rattle.iterate.specs.Places.{IsLogIn, IsLogOf, IsFit, AreStepsWithin, IfTold
 use Rattle.iterate.specs.RoomLists.{is_among, rooms_of, steps_in, AreRoomsBelow}
 use Rattle.iterate.specs.SessionViews.{OpenCommit, Rests, Core, SessionView, view_in}
 use Rattle.iterate.specs.SharedTurns.{Shared, shared_in, released, stays, cut_at, cut_commit, begun_commit, rest_of_commit}
-use Rattle.iterate.specs.Turns.{TakesTurn, HasTurned, Answers, IsAfter, TellsRight, event_of, limit_on, is_commit}
+use Rattle.iterate.specs.TurnMoves.{RoomMoves, at_book, enters_book, releases, moves_by, turn_moves}
+use Rattle.iterate.specs.Turns.{TakesTurn, HasTurned, Answers, HasMoved, IsAfter, TellsRight, event_of, limit_on, is_commit}
 use Rattle.iterate.proofs.Standing.{told_book}
 use Rattle.iterate.proofs.Visiting.{other_than_book}
 use Rattle.iterate.proofs.Turning.{whole}
@@ -95,7 +96,7 @@ module _ {T S St : Type 0} (op : Operator) (a b : RoomsView (Value T S)) (rest :
   seen = tells {T = T} {S = S} (Book was)
 
   abbrev inside : RoomsView (Value T S)
-  inside = entered a a.book seen
+  inside = entered tells a a.book (Book was)
 
   log_is : steps_in left c.log ≡ c.log
   log_is = steps_in_rooms c.log
@@ -132,8 +133,8 @@ module _ {T S St : Type 0} (op : Operator) (a b : RoomsView (Value T S)) (rest :
         log = refl;
       },
       ordered,
-      commits_entered_here a seen,
-      (λ room m. ap (λ f. f room) (released_here a seen)),
+      commits_entered_here tells a (Book was),
+      (λ room m. ap (λ f. f room) (released_here tells a (Book was))),
     );
   } where
     told_log : (o : Option (Value T S)) (room : ℕ) → IfTold o (λ value. IsLogOf room finished (gate_of value).live) → IfTold o (λ value. IsLogOf room making (gate_of value).live)
@@ -209,6 +210,21 @@ module _ {T S St : Type 0} (op : Operator) (a b : RoomsView (Value T S)) (rest :
   left_below room m = other_than_book a.book room (among_is_below a.book left room (subst (λ n. AreRoomsBelow n left) (sym fit.book) (rooms_below op.rooms c.log fit.within)) m)
 
   module _ (unnamed_is : is_named was c.worker c.iter ≡ false) (unordered : was.ordered ≡ false) (may : MayCommit (has_item was.ready c.item) (is_spent was) (is_past_journal was (length c.log))) where
+    moved_inside : (p q : Place) (lost : Option ℕ) (v : Event) → b.moves ≡ turn_moves a.book p.gates q.gates p.book q.book c.worker making.at (Some made) lost v inside.moves
+        → b.moves ≡ releases a.book p.gates q.gates was q.book left lost (enters_book a.book p.gates q.gates was q.book a.moves)
+    moved_inside p q None v m = m
+    moved_inside p q (Some room) v m = m
+
+    -- the moves are those inside, with the book entered before
+    lift_moved : (gates : ℕ → GateView) (q : Place) (t : SessionView) (e : CodeEvent) (lost : Option ℕ) → ((room : ℕ) → lost ≡ Some room → (a.book == room) ≡ false) → IsAfter (shared_in op a.book making (record { gates = gates; book = now; session = making.at }) (Some made) lost) (event_of e) t q
+        → b.moves ≡ releases a.book gates q.gates was q.book left lost (enters_book a.book gates q.gates was q.book a.moves) → HasMoved a.book finished (record { gates = gates; book = was; session = finished.at }) q lost (Ok e) a.moves b.moves
+    lift_moved gates q t e None n h m = subst (λ (v : Event). b.moves ≡ moves_by a.book gates q.gates was q.book c.worker finished.at None v a.moves) (sym h.event_is) m
+    lift_moved gates q t e (Some room) n h m =
+        let cut : RoomMoves T S = releases a.book gates q.gates was q.book left (Some room) (enters_book a.book gates q.gates was q.book a.moves) in
+        let visit : RoomMoves T S = at_book a.book gates q.gates was q.book a.moves in
+        subst (λ (v : Event). b.moves ≡ moves_by a.book gates q.gates was q.book c.worker finished.at (Some room) v a.moves) (sym h.event_is)
+        (m ∙ sym (ap (λ (k : Bool). if k then a.moves else (if is_named was c.worker c.iter then visit else cut)) (n room refl) ∙ ap (λ (k : Bool). if k then visit else cut) unnamed_is))
+
     lift_inside : (t : SessionView) (e : CodeEvent) → TakesTurn op inside b making t (Ok e) → TakesTurn op a b finished t (Ok e)
     lift_inside t e k =
         let h : HasTurned op inside b making t (Ok e) = k.has_turned in
@@ -235,6 +251,7 @@ module _ {T S St : Type 0} (op : Operator) (a b : RoomsView (Value T S)) (rest :
               others = h.found.others;
             };
             answers = lift_answers unnamed_is unordered may h.p.gates h.stood.logs h.stood.no_others t h.q e h.lost (λ room m. left_below room (h.found.needed room m)) after;
+            moved = lift_moved h.p.gates h.q t e h.lost (λ room m. left_below room (h.found.needed room m)) after (moved_inside h.p h.q h.lost (event_of e) h.moved);
             same_rooms = record { book = h.same_rooms.book; ordered = h.same_rooms.ordered; acts_for = h.same_rooms.acts_for; telling = h.same_rooms.telling; live = h.same_rooms.live; live_told = h.same_rooms.live_told };
             same_worker = h.same_worker;
           };

@@ -16,7 +16,7 @@ use Rattle.speculation.specs.Machines.{Place, Turned, let_go, given_up, committe
 use Rattle.speculation.specs.Sessions.{Finished, undoing, undone_to, has_no_step}
 use Rattle.speculation.proofs.Putting.{no_bool, same_number}
 use Rattle.speculation.proofs.Steps.{is_none}
-use Rattle.rooms.specs.RoomsViews.{RoomsView, entered, left as rooms_left}
+use Rattle.rooms.specs.RoomsViews.{RoomsView, visited, entered, left as rooms_left}
 use Rattle.rooms.specs.HandedOut.{IsHandedOut, IsLost}
 use Rattle.rooms.specs.Values.{tells}
 use Rattle.rooms.specs.declared.values.Value.{Value}
@@ -31,10 +31,12 @@ use Rattle.iterate.specs.Places.{IsLogIn, IsFit}
 use Rattle.iterate.specs.RoomLists.{is_among, rooms_of}
 use Rattle.iterate.specs.SessionViews.{Rests, Core, SessionView, view_in}
 use Rattle.iterate.specs.SharedTurns.{Shared, cut_at, cut_commit, begun_commit, stays}
-use Rattle.iterate.specs.Turns.{TakesTurn, Answers, IsAfter, IsCause, MayLose, limit_on}
+use Rattle.iterate.specs.TurnMoves.{at_book, enters_book, releases, in_book}
+use Rattle.iterate.specs.Visits.{answer_to, gives_up, pushes_kept}
+use Rattle.iterate.specs.Turns.{TakesTurn, Answers, HasMoved, IsAfter, IsCause, MayLose, limit_on}
 use Rattle.iterate.proofs.Standing.{base_place}
-use Rattle.iterate.proofs.Turning.{whole}
-use Rattle.iterate.proofs.BookTurns.{body_of, book_place, book_turn, book_visited, lost_turn}
+use Rattle.iterate.proofs.Turning.{whole, lost_moves}
+use Rattle.iterate.proofs.BookTurns.{body_of, book_place, book_turn, book_visited, book_visit_moves, lost_turn}
 use Rattle.iterate.proofs.UndoTurns.{over, or_left, unless_true, where_true}
 
 -- ---- why a book refuses
@@ -128,11 +130,12 @@ module _ {T S St : Type 0} (op : Operator) (a b : RoomsView (Value T S)) (rest :
         tt,
         (λ e. absurd (no_bool (a.book == a.book) (same_number a.book) e)),
       )
+      (lost_moves a b a.book loss ∙ sym (ap (λ (k : Bool). if k then a.moves else (if is_named p.book c.worker c.iter then at_book a.book p.gates p.gates p.book p.book a.moves else releases a.book p.gates p.gates p.book p.book (rooms_of c.log) (Some a.book) (enters_book a.book p.gates p.gates p.book p.book a.moves))) (same_number a.book)))
 
   -- ---- the iteration gives up
 
   module _ (x : RoomsView (Value T S)) (fit : IsFit op a finished) (was book_now : BookView) (new : Core) (phase : CodePhase St) (pushes : List Item) (handed : IsHandedOut tells a a.book (Book was))
-      (enters : x ≡ entered a a.book (tells {T = T} {S = S} (Book was))) (leaves : b ≡ rooms_left tells x x.book (Book book_now))
+      (enters : x ≡ entered tells a a.book (Book was)) (leaves : b ≡ rooms_left tells x x.book (Book book_now))
       (calls : has_no_step c.log ≡ false → (book_now ≡ was) × (new ≡ record c { pushes = pushes }) × (phase ≡ code.Undoing))
       (overs : has_no_step c.log ≡ true → (book_now ≡ put_back was c.worker c.iter) × (new ≡ over c) × (phase ≡ code.Idle)) where
     abbrev p : Place
@@ -150,25 +153,31 @@ module _ {T S St : Type 0} (op : Operator) (a b : RoomsView (Value T S)) (rest :
     abbrev q_over : Place
     q_over = record { gates = p.gates; book = put_back was c.worker c.iter; session = over_view.at }
 
+    -- the moves of a visit of the book are those of the answer
+    abbrev VisitMoves : Result CodeEvent Stop → Type 0
+    VisitMoves r = (now : BookView) (t : SessionView) → b.moves ≡ visited a.book (Book was) (Book now) a.moves → HasMoved a.book finished p (record { gates = p.gates; book = now; session = t.at }) None r a.moves b.moves
+
     give_by : (r : Result CodeEvent Stop) → (has_no_step c.log ≡ false → Answers op a.book finished undoing_view p q_calls None r) → (has_no_step c.log ≡ true → Answers op a.book finished over_view p q_over None r)
-        → (k : Bool) → has_no_step c.log ≡ k → TakesTurn op a b finished (view_in rest new phase) r
-    give_by r ans_calls ans_over false e =
+        → VisitMoves r → (k : Bool) → has_no_step c.log ≡ k → TakesTurn op a b finished (view_in rest new phase) r
+    give_by r ans_calls ans_over moved false e =
         let h : (book_now ≡ was) × (new ≡ record c { pushes = pushes }) × (phase ≡ code.Undoing) = calls e in
         subst (λ (f : CodePhase St). TakesTurn op a b finished (view_in rest new f) r) (sym h.2)
         (subst (λ (k : Core). TakesTurn op a b finished (view_in rest k code.Undoing) r) (sym h.1)
-        (book_turn op a b finished undoing_view was was (book_visited a x b was book_now was handed enters leaves h.0) fit refl refl refl refl (λ room es k. k) fit.within tt r (ans_calls e)))
-    give_by r ans_calls ans_over true e =
+        (book_turn op a b finished undoing_view was was (book_visited a x b was book_now was handed enters leaves h.0) fit refl refl refl refl (λ room es k. k) fit.within tt r (ans_calls e)
+        (moved was undoing_view (book_visit_moves a b was was (book_visited a x b was book_now was handed enters leaves h.0)))))
+    give_by r ans_calls ans_over moved true e =
         let h : (book_now ≡ put_back was c.worker c.iter) × (new ≡ over c) × (phase ≡ code.Idle) = overs e in
         subst (λ (f : CodePhase St). TakesTurn op a b finished (view_in rest new f) r) (sym h.2)
         (subst (λ (k : Core). TakesTurn op a b finished (view_in rest k code.Idle) r) (sym h.1)
         (book_turn op a b finished over_view was (put_back was c.worker c.iter) (book_visited a x b was book_now (put_back was c.worker c.iter) handed enters leaves h.0) fit refl refl refl refl
-        (λ room es k. subst (λ steps. IsLogIn room c.worker c.iter c.item steps es) (is_none c.log e) k) tt refl r (ans_over e)))
+        (λ room es k. subst (λ steps. IsLogIn room c.worker c.iter c.item steps es) (is_none c.log e) k) tt refl r (ans_over e)
+        (moved (put_back was c.worker c.iter) over_view (book_visit_moves a b was (put_back was c.worker c.iter) (book_visited a x b was book_now (put_back was c.worker c.iter) handed enters leaves h.0)))))
 
     give_turn : (r : Result CodeEvent Stop) → (has_no_step c.log ≡ false → Answers op a.book finished undoing_view p q_calls None r) → (has_no_step c.log ≡ true → Answers op a.book finished over_view p q_over None r)
-        → TakesTurn op a b finished (view_in rest new phase) r
-    give_turn r ans_calls ans_over = give_by r ans_calls ans_over (has_no_step c.log) refl
+        → VisitMoves r → TakesTurn op a b finished (view_in rest new phase) r
+    give_turn r ans_calls ans_over moved = give_by r ans_calls ans_over moved (has_no_step c.log) refl
 
-    pub drop_turn : pushes ≡ c.pushes → is_named was c.worker c.iter ≡ false → was.ordered ≡ false → has_item was.ready c.item ≡ false → TakesTurn op a b finished (view_in rest new phase) (Ok events.Drop)
+    drop_turn : pushes ≡ c.pushes → is_named was c.worker c.iter ≡ false → was.ordered ≡ false → has_item was.ready c.item ≡ false → TakesTurn op a b finished (view_in rest new phase) (Ok events.Drop)
     drop_turn same n o r =
         let u : Turned = record { event = event.Drop; place = given_up p c.worker finished.at } in
         let turns : turn_at op p c.worker ≡ u = finishes p.gates was false n o r in
@@ -178,13 +187,19 @@ module _ {T S St : Type 0} (op : Operator) (a b : RoomsView (Value T S)) (rest :
         ∙ sym (unless_true (has_no_step c.log) (let_go p c.worker finished.at) (record { gates = p.gates; book = was; session = undoing finished.at }) e)) refl refl refl tt)
         (λ e. whole op a b finished over_view p q_over u events.Drop turns refl refl
         (sym (where_true (has_no_step c.log) (let_go p c.worker finished.at) (record { gates = p.gates; book = was; session = undoing finished.at }) e)) refl refl refl tt)
+        (λ now t e. e)
 
     none_lost : (stop : Stop) (book : ℕ) → MayLose stop book None
     none_lost stops.Spent book = refl
     none_lost stops.Kept book = refl
     none_lost stops.NoMemory book = λ room e. absurd (cc)
 
-    pub stop_turn : (stop : Stop) → pushes ≡ [] → IsCause stop (limit_on op p c.worker) → TakesTurn op a b finished (view_in rest new phase) (Err stop)
+    stop_moves : (stop : Stop) → VisitMoves (Err stop)
+    stop_moves stops.Spent now t e = e
+    stop_moves stops.Kept now t e = e
+    stop_moves stops.NoMemory now t e = in_book refl e
+
+    stop_turn : (stop : Stop) → pushes ≡ [] → IsCause stop (limit_on op p c.worker) → TakesTurn op a b finished (view_in rest new phase) (Err stop)
     stop_turn stop none cause = give_turn (Err stop)
         (λ e. record {
           may = refl;
@@ -203,9 +218,25 @@ module _ {T S St : Type 0} (op : Operator) (a b : RoomsView (Value T S)) (rest :
           opened_is = refl;
           pushed_is = refl;
         })
+        (stop_moves stop)
 
     -- the limit that the commit would pass
-    pub passes : (spent past : Bool) → is_named was c.worker c.iter ≡ false → was.ordered ≡ false → has_item was.ready c.item ≡ true → is_spent was ≡ spent → is_past_journal was (length c.log) ≡ past
+    passes : (spent past : Bool) → is_named was c.worker c.iter ≡ false → was.ordered ≡ false → has_item was.ready c.item ≡ true → is_spent was ≡ spent → is_past_journal was (length c.log) ≡ past
         → limit_on op p c.worker ≡ (if spent then Some limit.Spent else (if past then Some limit.Kept else None))
     passes spent past n o r s j =
         ap (λ (u : Turned). limit_at u.event was (length c.log)) (finishes p.gates was true n o r) ∙ (λ i. if s i then Some limit.Spent else (if j i then Some limit.Kept else None))
+
+  -- a book refuses the commit
+  pub refused_turn : (x : RoomsView (Value T S)) → IsFit op a finished → (was book_now : BookView) (new : Core) (phase : CodePhase St) (refuse : CommitRefuse) → IsHandedOut tells a a.book (Book was) → x ≡ entered tells a a.book (Book was)
+      → b ≡ rooms_left tells x x.book (Book book_now) → is_named was c.worker c.iter ≡ false → was.ordered ≡ false → Because refuse (has_item was.ready c.item) (is_spent was) (is_past_journal was (length c.log))
+      → (gives_up refuse ≡ true → has_no_step c.log ≡ false → (book_now ≡ was) × (new ≡ record c { pushes = pushes_kept refuse c.pushes }) × (phase ≡ code.Undoing))
+      → (gives_up refuse ≡ true → has_no_step c.log ≡ true → (book_now ≡ put_back was c.worker c.iter) × (new ≡ over c) × (phase ≡ code.Idle)) → TakesTurn op a b finished (view_in rest new phase) (answer_to refuse)
+  refused_turn x fit was book_now new phase NotReady handed enters leaves n o why calls overs = drop_turn x fit was book_now new phase c.pushes handed enters leaves (calls refl) (overs refl) refl n o why
+  refused_turn x fit was book_now new phase (NotLeast least) handed enters leaves n o why calls overs = absurd why
+  refused_turn x fit was book_now new phase Spent handed enters leaves n o why calls overs =
+      stop_turn x fit was book_now new phase [] handed enters leaves (calls refl) (overs refl) stops.Spent refl
+      (passes x fit was book_now new phase [] handed enters leaves (calls refl) (overs refl) true (is_past_journal was (length c.log)) n o why.0 why.1 refl)
+  refused_turn x fit was book_now new phase Kept handed enters leaves n o why calls overs =
+      stop_turn x fit was book_now new phase [] handed enters leaves (calls refl) (overs refl) stops.Kept refl
+      (passes x fit was book_now new phase [] handed enters leaves (calls refl) (overs refl) false true n o why.0 why.1 why.2)
+  refused_turn x fit was book_now new phase NoMemory handed enters leaves n o why calls overs = stop_turn x fit was book_now new phase [] handed enters leaves (calls refl) (overs refl) stops.NoMemory refl tt

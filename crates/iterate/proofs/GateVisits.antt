@@ -9,7 +9,7 @@ use Rattle.gate_core.specs.Views.{GateView}
 use Rattle.commit_book.specs.BookViews.{BookView}
 use Rattle.speculation.specs.Machines.{Place}
 use Rattle.speculation.proofs.Putting.{numbers_equal}
-use Rattle.rooms.specs.RoomsViews.{RoomsView, entries_for, entered, left, is_held}
+use Rattle.rooms.specs.RoomsViews.{RoomsView, entries_for, visited, entered, left, is_held}
 use Rattle.rooms.specs.HandedOut.{IsHandedOut}
 use Rattle.rooms.specs.Values.{tells}
 use Rattle.rooms.specs.declared.values.Value.{Value}
@@ -19,7 +19,8 @@ use Rattle.iterate.specs.declared.events.Event.{Event as CodeEvent}
 use Rattle.iterate.specs.declared.events.Stop.{Stop}
 use Rattle.iterate.specs.Places.{IsLogOf, IsFit, AreStepsWithin, IsFitIn, gate_of, book_of, IfTold, IsBookIn, StandsOn}
 use Rattle.iterate.specs.SessionViews.{OpenCommit, SessionView}
-use Rattle.iterate.specs.Turns.{OthersStay, Answers, TakesTurn, IsLostIn}
+use Rattle.iterate.specs.TurnMoves.{RoomMoves}
+use Rattle.iterate.specs.Turns.{OthersStay, Answers, HasMoved, TakesTurn, IsLostIn}
 use Rattle.iterate.specs.Visits.{WasVisited}
 use Rattle.iterate.proofs.Logs.{log_shown}
 use Rattle.iterate.proofs.Standing.{AreLeft, fits, told_gate, base_gates, base_stands}
@@ -79,22 +80,27 @@ module _ {T S : Type 0} where
 
     are_left : AreLeft a b s t p q
     are_left =
-        one_left a b s t p q x y room (tells {T = T} {S = S} (Object was)) was now before visit.visit after below visit.handed (put_same (base_gates a) room was) refl log others elsewhere
+        one_left a b s t p q x y room was now before visit.visit after below visit.handed (put_same (base_gates a) room was) refl log others elsewhere
 
-    pub gate_turn : (r : Result CodeEvent Stop) → Answers op a.book s t (gate_place a s room was p_book) (record { gates = put (put (base_gates a) room was) room now; book = q_book; session = t.at }) lost r → TakesTurn op a b s t r
-    gate_turn r answers = record {
-      has_turned = turned op a b s t p q are_left (gate_stands op a x s room was before visit.handed fit none below p_book p_in p_ordered) fit same refl q_in q_ordered lost found r answers;
+    pub gate_turn : (r : Result CodeEvent Stop) → Answers op a.book s t (gate_place a s room was p_book) (record { gates = put (put (base_gates a) room was) room now; book = q_book; session = t.at }) lost r
+        → HasMoved a.book s (gate_place a s room was p_book) (record { gates = put (put (base_gates a) room was) room now; book = q_book; session = t.at }) lost r a.moves b.moves → TakesTurn op a b s t r
+    gate_turn r answers moved = record {
+      has_turned = turned op a b s t p q are_left (gate_stands op a x s room was before visit.handed fit none below p_book p_in p_ordered) fit same refl q_in q_ordered lost found r answers moved;
       is_fit = fits a b s t p q are_left fit.acts same op fit within doing;
     }
 
   -- ---- a visit of one gate alone
 
-  pub gate_visited : (a x b : RoomsView (Value T S)) (room : ℕ) (was left_as now : GateView) → IsHandedOut tells a room (Object was) → x ≡ entered a room (tells {T = T} {S = S} (Object was)) → b ≡ left tells x room (Object left_as) → left_as ≡ now
+  -- the gates that a place has before and after it
+  pub visited_at : (a : RoomsView (Value T S)) (room : ℕ) (was now : GateView) (moves : RoomMoves T S) → visited room (Object was) (Object now) moves ≡ visited room (Object (put (base_gates a) room was room)) (Object (put (put (base_gates a) room was) room now room)) moves
+  visited_at a room was now moves = λ i. visited room (Object (sym (put_same (base_gates a) room was) i)) (Object (sym (put_same (put (base_gates a) room was) room now) i)) moves
+
+  pub gate_visited : (a x b : RoomsView (Value T S)) (room : ℕ) (was left_as now : GateView) → IsHandedOut tells a room (Object was) → x ≡ entered tells a room (Object was) → b ≡ left tells x room (Object left_as) → left_as ≡ now
       → WasVisited a b room was now
   gate_visited a x b room was left_as now handed enters leaves same = record { handed = handed; visit = leaves ∙ (λ i. left tells (enters i) room (Object (same i))) }
 
   module _ (a b : RoomsView (Value T S)) (room : ℕ) (was now : GateView) (visit : WasVisited a b room was now) where
-    field_of : {A : Type 0} → (f : RoomsView (Value T S) → A) → f b ≡ f (left tells (entered a room (tells {T = T} {S = S} (Object was))) room (Object now))
+    field_of : {A : Type 0} → (f : RoomsView (Value T S) → A) → f b ≡ f (left tells (entered tells a room (Object was)) room (Object now))
     field_of f = ap f visit.visit
 
     pub gate_visit_free : ((other : ℕ) → is_held a other ≡ false) → (other : ℕ) → is_held b other ≡ false
@@ -102,6 +108,9 @@ module _ {T S : Type 0} where
 
     pub gate_visit_lost : (other : ℕ) → b.lost other ≡ a.lost other
     gate_visit_lost other = field_of (λ v. v.lost other)
+
+    pub gate_visit_moves : b.moves ≡ visited room (Object was) (Object now) a.moves
+    gate_visit_moves = field_of (λ v. v.moves)
 
     pub gate_visit_book : room < a.book → (bk : BookView) → IsBookIn a None bk → IsBookIn b None bk
     gate_visit_book below bk h =

@@ -1,5 +1,5 @@
 -- Turns in which an iteration gives up.
-use Rattle.std.specs.Prelude.{◌≡◌, ◌≢◌, ℕ, ◌<◌, Bool, true, false, ◌==◌, Option, Some, None, List, [], is_some, Result, refl}
+use Rattle.std.specs.Prelude.{◌≡◌, ◌≢◌, ℕ, ◌<◌, Bool, true, false, ◌==◌, if◌then◌else◌, Option, Some, None, List, [], is_some, Result, refl}
 use Rattle.std.proofs.Common.{sym, ◌∙◌, ap, subst}
 use Rattle.gx_base.specs.declared.acts.Entry.{Entry}
 use Rattle.gx_base.specs.Plans.{Operator}
@@ -11,11 +11,11 @@ use Rattle.speculation.specs.Machines.{Place}
 use Rattle.speculation.specs.Sessions.{has_no_step}
 use Rattle.speculation.proofs.Putting.{numbers_equal}
 use Rattle.speculation.proofs.Steps.{is_none}
-use Rattle.rooms.specs.RoomsViews.{RoomsView, entries_for, told_with, entered, left, is_held}
+use Rattle.rooms.specs.RoomsViews.{RoomsView, entries_for, told_with, visited, entered, left, is_held}
 use Rattle.rooms.specs.HandedOut.{IsValueTold, IsLost, CountHasRisen}
 use Rattle.rooms.specs.Values.{tells}
 use Rattle.rooms.specs.declared.values.Value.{Value}
-use Rattle.rooms.specs.declared.values.Value.TheVariants.{Object}
+use Rattle.rooms.specs.declared.values.Value.TheVariants.{Object, Book}
 use Rattle.rooms.proofs.CallerLemmas.{put_itself, put_other}
 use Rattle.iterate.specs.declared.events.Event.{Event as CodeEvent}
 use Rattle.iterate.specs.declared.events.Stop.{Stop}
@@ -24,12 +24,13 @@ use Rattle.iterate.specs.declared.session.Phase.TheVariants as code
 use Rattle.iterate.specs.Needs.{needs}
 use Rattle.iterate.specs.Places.{IsLogIn, IsLogOf, IsFit, AreStepsWithin, IfTold, book_of, IsBookIn, StandsOn}
 use Rattle.iterate.specs.SessionViews.{OpenCommit, Rests, Core, SessionView, view_in}
-use Rattle.iterate.specs.Turns.{Answers, TakesTurn, IsLostIn}
+use Rattle.iterate.specs.TurnMoves.{puts_back, at_book}
+use Rattle.iterate.specs.Turns.{Answers, HasMoved, TakesTurn, IsLostIn}
 use Rattle.iterate.specs.Visits.{WasVisited, BookWasVisited, GaveUp, has_calls, is_over, owes}
 use Rattle.iterate.proofs.Standing.{AreLeft, fits, told_book, base_book_in, base_stands}
 use Rattle.iterate.proofs.Visiting.{SameGates, same_gates, then_same, lost_gates, none_left}
-use Rattle.iterate.proofs.Turning.{turned, no_loss, some_number, held_again}
-use Rattle.iterate.proofs.BookTurns.{book_visit_gates, book_visit_free, book_visit_lost, book_visit_told}
+use Rattle.iterate.proofs.Turning.{turned, no_loss, lost_moves, some_number, held_again}
+use Rattle.iterate.proofs.BookTurns.{book_visit_gates, book_visit_free, book_visit_lost, book_visit_moves, book_visit_told}
 use Rattle.iterate.proofs.UndoTurns.{over}
 
 module _ {T S : Type 0} where
@@ -58,7 +59,7 @@ module _ {T S : Type 0} where
     same_told : put a.told room (told_with (a.told room) (Object was)) ≡ a.told
     same_told = put_itself a.told room (told_with (a.told room) (Object was)) (sym (told_again (a.told room) was visit.handed.told))
 
-    x_of : {A : Type 0} → (f : RoomsView (Value T S) → A) → f x ≡ f (left tells (entered a room seen) room (Object was))
+    x_of : {A : Type 0} → (f : RoomsView (Value T S) → A) → f x ≡ f (left tells (entered tells a room (Object was)) room (Object was))
     x_of f = ap f visit.visit
 
     x_told : (other : ℕ) → x.told other ≡ a.told other
@@ -109,21 +110,28 @@ module _ {T S : Type 0} where
     told_after : (bk : BookView) → b.told b.book ≡ a.told a.book → IsBookIn a None bk → IsBookIn b None bk
     told_after bk e h = subst (λ (o : Option (Value T S)). IfTold o (λ value. bk ≡ book_of value)) (sym e) h
 
-    calls_turn : b ≡ x → (r : Result CodeEvent Stop) → Answers op a.book s undoing (place base s) (place base undoing) None r → TakesTurn op a b s undoing r
-    calls_turn e r answers =
+    -- what becomes of the book's room
+    abbrev Back : Option ℕ → (bk now : BookView) → Type 0
+    Back lost bk now = b.moves ≡ puts_back a.book gates gates bk now c.log lost x.moves
+
+    calls_turn : has_no_step c.log ≡ false → b ≡ x → (r : Result CodeEvent Stop) → Answers op a.book s undoing (place base s) (place base undoing) None r
+        → (Back None base base → HasMoved a.book s (place base s) (place base undoing) None r a.moves b.moves) → TakesTurn op a b s undoing r
+    calls_turn n e r answers moved =
         let h : SameGates a b = subst (SameGates a) (sym e) quiet.gates in
         let l : AreLeft a b s undoing (place base s) (place base undoing) = none_left a b s undoing (place base s) (place base undoing) h refl log in
         record {
           has_turned =
               turned op a b s undoing (place base s) (place base undoing) l (stand base base_in base_ordered) fit same refl
               (told_after base (ap (λ (v : RoomsView (Value T S)). v.told v.book) e ∙ quiet.told_book) base_in) base_ordered None
-              (no_loss a b s (λ room. ap (λ (v : RoomsView (Value T S)). v.lost room) e ∙ quiet.lost room)) r answers;
+              (no_loss a b s (λ room. ap (λ (v : RoomsView (Value T S)). v.lost room) e ∙ quiet.lost room)) r answers
+              (moved (ap (λ (v : RoomsView (Value T S)). v.moves) e ∙ sym (ap (λ (k : Bool). if k then at_book a.book gates gates base base x.moves else x.moves) n)));
           is_fit = fits a b s undoing (place base s) (place base undoing) l fit.acts same op fit within ((λ room. ap (λ (v : RoomsView (Value T S)). is_held v room) e ∙ quiet.free room), tt);
         }
 
     over_turn : (was : BookView) → has_no_step c.log ≡ true → BookWasVisited x b was (put_back was c.worker c.iter) → (r : Result CodeEvent Stop)
-        → Answers op a.book s ended (place was s) (place (put_back was c.worker c.iter) ended) None r → TakesTurn op a b s ended r
-    over_turn was e visit r answers =
+        → Answers op a.book s ended (place was s) (place (put_back was c.worker c.iter) ended) None r
+        → (Back None was (put_back was c.worker c.iter) → HasMoved a.book s (place was s) (place (put_back was c.worker c.iter) ended) None r a.moves b.moves) → TakesTurn op a b s ended r
+    over_turn was e visit r answers moved =
         let now : BookView = put_back was c.worker c.iter in
         let ordered : was.ordered ≡ a.ordered = visit.handed.suits.ordered_as refl ∙ quiet.gates.ordered in
         let h : SameGates a b = then_same a x b quiet.gates (book_visit_gates x b was now visit refl) in
@@ -133,7 +141,8 @@ module _ {T S : Type 0} where
           has_turned =
               turned op a b s ended (place was s) (place now ended) l
               (stand was (subst (λ (o : Option (Value T S)). IfTold o (λ value. was ≡ book_of value)) quiet.told_book (told_book (x.told x.book) was visit.handed.told)) ordered) fit same refl
-              (book_visit_told x b was now visit) ordered None (no_loss a b s (λ room. book_visit_lost x b was now visit room ∙ quiet.lost room)) r answers;
+              (book_visit_told x b was now visit) ordered None (no_loss a b s (λ room. book_visit_lost x b was now visit room ∙ quiet.lost room)) r answers
+              (moved (book_visit_moves x b was now visit ∙ ap (λ n. visited n (Book was) (Book now) x.moves) quiet.gates.book ∙ sym (ap (λ (k : Bool). if k then at_book a.book gates gates was now x.moves else x.moves) e)));
           is_fit = fits a b s ended (place was s) (place now ended) l fit.acts same op fit tt (book_visit_free x b was now visit quiet.free, refl);
         }
 
@@ -154,15 +163,16 @@ module _ {T S : Type 0} where
       others = λ other m. others_by h other m (a.book == other) refl;
     }
 
-    owes_turn : has_no_step c.log ≡ true → IsLost x b x.book → (r : Result CodeEvent Stop) → Answers op a.book s undoing (place base s) (place base undoing) (Some a.book) r → TakesTurn op a b s undoing r
-    owes_turn e loss r answers =
+    owes_turn : has_no_step c.log ≡ true → IsLost x b x.book → (r : Result CodeEvent Stop) → Answers op a.book s undoing (place base s) (place base undoing) (Some a.book) r
+        → (Back (Some a.book) base base → HasMoved a.book s (place base s) (place base undoing) (Some a.book) r a.moves b.moves) → TakesTurn op a b s undoing r
+    owes_turn e loss r answers moved =
         let h : SameGates a b = then_same a x b quiet.gates (lost_gates x b x.book loss) in
         let l : AreLeft a b s undoing (place base s) (place base undoing) = none_left a b s undoing (place base s) (place base undoing) h refl log in
         record {
           has_turned =
               turned op a b s undoing (place base s) (place base undoing) l (stand base base_in base_ordered) fit same refl
               (told_after base (ap (λ (v : RoomsView (Value T S)). v.told v.book) loss.same ∙ quiet.told_book) base_in) base_ordered (Some a.book)
-              (quiet_loss loss (needed e)) r answers;
+              (quiet_loss loss (needed e)) r answers (moved (lost_moves x b x.book loss));
           is_fit = fits a b s undoing (place base s) (place base undoing) l fit.acts same op fit within ((λ room. ap (λ (v : RoomsView (Value T S)). is_held v room) loss.same ∙ quiet.free room), tt);
         }
 
@@ -170,15 +180,16 @@ module _ {T S : Type 0} where
     pub gave_up_turn : (old new : Core) (phase : CodePhase St) → old ≡ c → GaveUp x b old new phase → (r : Result CodeEvent Stop)
         → (has_no_step c.log ≡ false → Answers op a.book s undoing (place base s) (place base undoing) None r)
         → ((was : BookView) → has_no_step c.log ≡ true → was.ordered ≡ a.ordered → Answers op a.book s ended (place was s) (place (put_back was c.worker c.iter) ended) None r)
-        → (has_no_step c.log ≡ true → Answers op a.book s undoing (place base s) (place base undoing) (Some a.book) r) → TakesTurn op a b s (view_in rest new phase) r
-    gave_up_turn old new phase o (has_calls n e is p) r calls overs owed =
+        → (has_no_step c.log ≡ true → Answers op a.book s undoing (place base s) (place base undoing) (Some a.book) r)
+        → ((lost : Option ℕ) (bk now : BookView) (t : SessionView) → Back lost bk now → HasMoved a.book s (place bk s) (place now t) lost r a.moves b.moves) → TakesTurn op a b s (view_in rest new phase) r
+    gave_up_turn old new phase o (has_calls n e is p) r calls overs owed moved =
         let m : has_no_step c.log ≡ false = subst (λ (k : Core). has_no_step k.log ≡ false) o n in
-        subst (λ (f : CodePhase St). TakesTurn op a b s (view_in rest new f) r) (sym p) (subst (λ (k : Core). TakesTurn op a b s (view_in rest k code.Undoing) r) (sym (is ∙ o)) (calls_turn e r (calls m)))
-    gave_up_turn old new phase o (is_over was n visit is p) r calls overs owed =
+        subst (λ (f : CodePhase St). TakesTurn op a b s (view_in rest new f) r) (sym p) (subst (λ (k : Core). TakesTurn op a b s (view_in rest k code.Undoing) r) (sym (is ∙ o)) (calls_turn m e r (calls m) (moved None base base undoing)))
+    gave_up_turn old new phase o (is_over was n visit is p) r calls overs owed moved =
         let m : has_no_step c.log ≡ true = subst (λ (k : Core). has_no_step k.log ≡ true) o n in
         let v : BookWasVisited x b was (put_back was c.worker c.iter) = subst (λ (k : Core). BookWasVisited x b was (put_back was k.worker k.iter)) o visit in
         subst (λ (f : CodePhase St). TakesTurn op a b s (view_in rest new f) r) (sym p)
-        (subst (λ (k : Core). TakesTurn op a b s (view_in rest k code.Idle) r) (sym (is ∙ ap over o)) (over_turn was m v r (overs was m (visit.handed.suits.ordered_as refl ∙ quiet.gates.ordered))))
-    gave_up_turn old new phase o (owes n loss is p) r calls overs owed =
+        (subst (λ (k : Core). TakesTurn op a b s (view_in rest k code.Idle) r) (sym (is ∙ ap over o)) (over_turn was m v r (overs was m (visit.handed.suits.ordered_as refl ∙ quiet.gates.ordered)) (moved None was (put_back was c.worker c.iter) ended)))
+    gave_up_turn old new phase o (owes n loss is p) r calls overs owed moved =
         let m : has_no_step c.log ≡ true = subst (λ (k : Core). has_no_step k.log ≡ true) o n in
-        subst (λ (f : CodePhase St). TakesTurn op a b s (view_in rest new f) r) (sym p) (subst (λ (k : Core). TakesTurn op a b s (view_in rest k code.Undoing) r) (sym (is ∙ o)) (owes_turn m loss r (owed m)))
+        subst (λ (f : CodePhase St). TakesTurn op a b s (view_in rest new f) r) (sym p) (subst (λ (k : Core). TakesTurn op a b s (view_in rest k code.Undoing) r) (sym (is ∙ o)) (owes_turn m loss r (owed m) (moved (Some a.book) base base undoing)))

@@ -34,11 +34,13 @@ use Rattle.iterate.specs.Places.{IsFit, IsBody, IsAskedWithin}
 use Rattle.iterate.specs.RoomLists.{is_among, rooms_of}
 use Rattle.iterate.specs.SessionViews.{Rests, Core, SessionView, at_in, view_in, phase_of}
 use Rattle.iterate.specs.SharedTurns.{Shared, cut_at, shared_in, given_back, stopped_at, pushes_by}
-use Rattle.iterate.specs.Turns.{TakesTurn, HasTurned, Answers, IsAfter, TellsRight, GoesWell, IsCutIn, IsCause, event_of, limit_on, is_conflict, is_commit, may_stop_at}
+use Rattle.iterate.specs.TurnMoves.{turn_moves, StopMoves, in_no_room}
+use Rattle.iterate.specs.Turns.{TakesTurn, HasTurned, Answers, HasMoved, IsAfter, TellsRight, GoesWell, IsCutIn, IsCause, event_of, limit_on, is_conflict, is_commit, may_stop_at}
 use Rattle.iterate.specs.Visits.{GaveUp}
 use Rattle.iterate.proofs.BookTurns.{free_of, body_of}
-use Rattle.iterate.proofs.CallTurns.{asked_call, stopped_turn}
+use Rattle.iterate.proofs.CallTurns.{asked_call, stands_with, stopped_turn}
 use Rattle.iterate.proofs.GivingUp.{quiet_itself}
+use Rattle.iterate.proofs.Standing.{base_gates}
 use Rattle.iterate.proofs.UndoTurns.{or_left, or_right}
 
 -- ---- turns depend on a place's gates and book alone, where the session is given
@@ -178,6 +180,11 @@ module _ {T S : Type 0} (op : Operator) (a b : RoomsView (Value T S)) (c : Core)
       stopped_by Finished e m n lost = ap (λ g. stopped_at further c.worker g lost) e
       stopped_by Undoing e m n lost = absurd (cc)
 
+      -- the moves are told by the session as it has gone on
+      moved_same : (first : Session) (q : Place) (lost : Option ℕ) (r : Result CodeEvent Stop) → HasMoved a.book gone (record { gates = gates; book = bk; session = first }) q lost r a.moves b.moves → HasMoved a.book running before q lost r a.moves b.moves
+      moved_same first q lost (Ok e) h = subst (λ (s : Session). b.moves ≡ turn_moves a.book gates q.gates bk q.book c.worker s None lost (event_of e) a.moves) come_further h
+      moved_same first q lost (Err stop) h = subst (λ (s : Session). StopMoves a.book gates q.gates bk q.book stop s.phase c.log lost a.moves b.moves) come_further h
+
       answers_same : (t : SessionView) (q : Place) (lost : Option ℕ) (r : Result CodeEvent Stop) → phase ≢ Idle → Answers op a.book gone t further q lost r → Answers op a.book running t before q lost r
       answers_same t q lost (Ok e) n h = (subst (λ (x : Shared). IsAfter x (event_of e) t q) (shared_same lost) h.0, tells_same e h.1, goes_well lost h.2)
       answers_same t q lost (Err stop) n h = record {
@@ -206,6 +213,7 @@ module _ {T S : Type 0} (op : Operator) (a b : RoomsView (Value T S)) (c : Core)
               others = h.found.others;
             };
             answers = answers_same h.p.gates h.p.book t h.q h.lost r n (subst (λ (x : Place). Answers op a.book gone t x h.q h.lost r) p_is h.answers);
+            moved = moved_same h.p.gates h.p.book h.p.session h.q h.lost r h.moved;
             same_rooms = h.same_rooms;
             same_worker = h.same_worker;
           };
@@ -309,11 +317,11 @@ module _ {T S St : Type 0} (op : Operator) (a b : RoomsView (Value T S)) (rest :
   pub go_stops : (f : CodePhase St) → IsAtWork f → IsFit op a (view_in rest c f) → GaveUp a b (record c { pushes = [] }) new phase → TakesTurn op a b (view_in rest c f) (view_in rest new phase) (Err stops.NoMemory)
   go_stops code.Idle w fit k = absurd w
   go_stops (code.Running st last) w fit k =
-      stopped_turn op a a b rest c (view_in rest c (code.Running st last)) (rest st last) None refl fit (quiet_itself a (free_of op a (view_in rest c (code.Running st last)) fit refl))
-      (needs_running op a b c [] (rest st last) Idle None None) new phase k
+      stopped_turn op a a b rest c (view_in rest c (code.Running st last)) (rest st last) None refl (base_gates a) (λ bk in_book o. stands_with op a (view_in rest c (code.Running st last)) fit refl bk in_book o) fit (quiet_itself a (free_of op a (view_in rest c (code.Running st last)) fit refl))
+      (needs_running op a b c [] (rest st last) Idle None None) (λ lost bk now e. in_no_room e) new phase k
   go_stops (code.Asking st x y) w fit k =
-      stopped_turn op a a b rest c (view_in rest c (code.Asking st x y)) (Call x y (λ reply. rest st (Some reply))) (Some x) refl fit (quiet_itself a (free_of op a (view_in rest c (code.Asking st x y)) fit refl))
-      (needs_running op a b c [] (Call x y (λ reply. rest st (Some reply))) Idle (Some x) None) new phase k
+      stopped_turn op a a b rest c (view_in rest c (code.Asking st x y)) (Call x y (λ reply. rest st (Some reply))) (Some x) refl (base_gates a) (λ bk in_book o. stands_with op a (view_in rest c (code.Asking st x y)) fit refl bk in_book o) fit (quiet_itself a (free_of op a (view_in rest c (code.Asking st x y)) fit refl))
+      (needs_running op a b c [] (Call x y (λ reply. rest st (Some reply))) Idle (Some x) None) (λ lost bk now e. in_no_room e) new phase k
   go_stops code.Finished w fit k = absurd w
   go_stops (code.Committing book number left) w fit k = absurd w
   go_stops code.Undoing w fit k = absurd w

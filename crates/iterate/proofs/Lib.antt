@@ -10,6 +10,7 @@ pub mod LoneRuns
 pub mod Turning
 pub mod BookTurns
 pub mod GateVisits
+pub mod MovedGates
 pub mod NestedVisits
 pub mod UndoTurns
 pub mod ShownTurns
@@ -25,3 +26,4 @@ pub mod FinishTurns
 pub mod LogRooms
 pub mod CommitTurns
 pub mod GoTurns
+pub mod PlacedRooms

@@ -1,12 +1,12 @@
 -- A gate was visited while the book was held.
-use Rattle.std.specs.Prelude.{◌≡◌, ◌≢◌, ℕ, ◌<◌, Bool, true, false, ◌==◌, Option, Some, None, is_some, refl}
+use Rattle.std.specs.Prelude.{◌≡◌, ◌≢◌, ℕ, ◌<◌, Bool, true, false, ◌==◌, Option, Some, None, ◌∷◌, is_some, refl}
 use Rattle.std.proofs.Common.{sym, ◌∙◌, ap, subst}
 use Rattle.gx_base.specs.Replays.{put}
 use Rattle.gx_base.specs.RoomViews.{RoomView}
 use Rattle.gate_core.specs.Views.{GateView}
 use Rattle.commit_book.specs.BookViews.{BookView}
 use Rattle.speculation.proofs.Putting.{numbers_equal}
-use Rattle.rooms.specs.RoomsViews.{RoomsView, told_with, entered, left, is_held}
+use Rattle.rooms.specs.RoomsViews.{RoomsView, told_with, enters as entry, leaves as exit, visited, entered, left, is_held}
 use Rattle.rooms.specs.HandedOut.{IsHandedOut, IsLost, CountHasRisen}
 use Rattle.rooms.specs.Values.{tells}
 use Rattle.rooms.specs.declared.values.Value.{Value}
@@ -14,6 +14,7 @@ use Rattle.rooms.specs.declared.values.Value.TheVariants.{Object, Book}
 use Rattle.rooms.proofs.CallerLemmas.{put_same, put_other, held_elsewhere}
 use Rattle.iterate.specs.Needs.{needs}
 use Rattle.iterate.specs.SessionViews.{SessionView}
+use Rattle.iterate.specs.TurnMoves.{RoomMoves}
 use Rattle.iterate.specs.Turns.{IsLostIn}
 use Rattle.iterate.specs.Places.{book_of, IfTold, IsBookIn}
 use Rattle.iterate.specs.Visits.{WasVisited, BookWasVisited}
@@ -23,11 +24,11 @@ use Rattle.iterate.proofs.BookTurns.{book_visit_gates, book_visit_free, book_vis
 use Rattle.iterate.proofs.Visiting.{SameGates, entered_gates, book_gates, other_than_book}
 
 module _ {T S : Type 0} (a x y b : RoomsView (Value T S)) (room : ℕ) (seen now : BookView) (was is : GateView) (handed : IsHandedOut tells a a.book (Book seen))
-    (enters : x ≡ entered a a.book (tells {T = T} {S = S} (Book seen))) (visit : WasVisited x y room was is) (leaves : b ≡ left tells y y.book (Book now)) where
-  x_of : {A : Type 0} → (f : RoomsView (Value T S) → A) → f x ≡ f (entered a a.book (tells {T = T} {S = S} (Book seen)))
+    (enters : x ≡ entered tells a a.book (Book seen)) (visit : WasVisited x y room was is) (leaves : b ≡ left tells y y.book (Book now)) where
+  x_of : {A : Type 0} → (f : RoomsView (Value T S) → A) → f x ≡ f (entered tells a a.book (Book seen))
   x_of f = ap f enters
 
-  y_of : {A : Type 0} → (f : RoomsView (Value T S) → A) → f y ≡ f (left tells (entered x room (tells {T = T} {S = S} (Object was))) room (Object is))
+  y_of : {A : Type 0} → (f : RoomsView (Value T S) → A) → f y ≡ f (left tells (entered tells x room (Object was)) room (Object is))
   y_of f = ap f visit.visit
 
   b_of : {A : Type 0} → (f : RoomsView (Value T S) → A) → f b ≡ f (left tells y y.book (Book now))
@@ -40,7 +41,7 @@ module _ {T S : Type 0} (a x y b : RoomsView (Value T S)) (room : ℕ) (seen now
   y_ordered = y_of (λ v. v.ordered) ∙ x_of (λ v. v.ordered)
 
   pub nested_before : SameGates a x
-  nested_before = subst (SameGates a) (sym enters) (entered_gates a a.book (tells {T = T} {S = S} (Book seen)))
+  nested_before = subst (SameGates a) (sym enters) (entered_gates a a.book (Book seen))
 
   pub nested_after : now.ordered ≡ seen.ordered → SameGates y b
   nested_after o = subst (SameGates y) (sym leaves) (book_gates y now (o ∙ handed.suits.ordered_as refl ∙ sym y_ordered))
@@ -52,6 +53,9 @@ module _ {T S : Type 0} (a x y b : RoomsView (Value T S)) (room : ℕ) (seen now
 
   pub nested_lost : (other : ℕ) → b.lost other ≡ a.lost other
   nested_lost other = b_of (λ v. v.lost other) ∙ y_of (λ v. v.lost other) ∙ x_of (λ v. v.lost other)
+
+  pub nested_moves : b.moves ≡ exit a.book (Book now) ∷ visited room (Object was) (Object is) (entry a.book (Book seen) ∷ a.moves)
+  nested_moves = b_of (λ v. v.moves) ∙ (λ i. exit (y_book i) (Book now) ∷ y_of (λ v. v.moves) i) ∙ ap (λ (ms : RoomMoves T S). exit a.book (Book now) ∷ visited room (Object was) (Object is) ms) (x_of (λ v. v.moves))
 
   module _ (free : (other : ℕ) → is_held a other ≡ false) where
     x_free : (other : ℕ) → (a.book == other) ≡ false → is_held x other ≡ false
@@ -74,11 +78,11 @@ module _ {T S : Type 0} (a x y b : RoomsView (Value T S)) (room : ℕ) (seen now
     nested_free other = b_by other (a.book == other) refl
 
 -- a room is free still, when the book was entered
-pub entered_free : {T S : Type 0} (a x : RoomsView (Value T S)) (seen : RoomView) (room : ℕ) → x ≡ entered a a.book seen → room < a.book → is_held a room ≡ false → is_held x room ≡ false
-entered_free {T} {S} a x seen room e l free = ap (λ (v : RoomsView (Value T S)). is_held v room) e ∙ held_elsewhere a a.book seen room (other_than_book a.book room l) ∙ free
+pub entered_free : {T S : Type 0} (a x : RoomsView (Value T S)) (value : Value T S) (room : ℕ) → x ≡ entered tells a a.book value → room < a.book → is_held a room ≡ false → is_held x room ≡ false
+entered_free {T} {S} a x value room e l free = ap (λ (v : RoomsView (Value T S)). is_held v room) e ∙ held_elsewhere tells a a.book value room (other_than_book a.book room l) ∙ free
 
-pub entered_below : {T S : Type 0} (a x : RoomsView (Value T S)) (seen : RoomView) (room : ℕ) → x ≡ entered a a.book seen → room < a.book → room < x.book
-entered_below {T} {S} a x seen room e l = subst (λ (v : RoomsView (Value T S)). room < v.book) (sym e) l
+pub entered_below : {T S : Type 0} (a x : RoomsView (Value T S)) (value : Value T S) (room : ℕ) → x ≡ entered tells a a.book value → room < a.book → room < x.book
+entered_below {T} {S} a x value room e l = subst (λ (v : RoomsView (Value T S)). room < v.book) (sym e) l
 
 -- ---- a gate that would have been visited while the book was held is held itself, and the book was left as it was
 
@@ -88,11 +92,12 @@ pub record LostNested {T S : Type 0} (a b : RoomsView (Value T S)) (room : ℕ) 
   pub free : (other : ℕ) → is_held b other ≡ false
   pub risen : CountHasRisen (a.lost room) (b.lost room)
   pub others : (other : ℕ) → (room == other) ≡ false → b.lost other ≡ a.lost other
+  pub moves : b.moves ≡ visited a.book (Book seen) (Book seen) a.moves
 
-pub lost_nested : {T S : Type 0} (a x y b : RoomsView (Value T S)) (room : ℕ) (seen : BookView) → IsHandedOut tells a a.book (Book seen) → x ≡ entered a a.book (tells {T = T} {S = S} (Book seen)) → IsLost x y room
+pub lost_nested : {T S : Type 0} (a x y b : RoomsView (Value T S)) (room : ℕ) (seen : BookView) → IsHandedOut tells a a.book (Book seen) → x ≡ entered tells a a.book (Book seen) → IsLost x y room
     → b ≡ left tells y y.book (Book seen) → ((other : ℕ) → is_held a other ≡ false) → LostNested a b room seen
 lost_nested {T} {S} a x y b room seen handed enters loss leaves free =
-    let e : RoomsView (Value T S) = entered a a.book (tells {T = T} {S = S} (Book seen)) in
+    let e : RoomsView (Value T S) = entered tells a a.book (Book seen) in
     let loss_e : IsLost e y room = subst (λ (v : RoomsView (Value T S)). IsLost v y room) enters loss in
     -- what is left is what would have been left at once, but for the count
     let b_is : b ≡ record (left tells e a.book (Book seen)) { lost = put a.lost room (y.lost room) } = leaves ∙ ap (λ (v : RoomsView (Value T S)). left tells v v.book (Book seen)) loss_e.same in
@@ -105,6 +110,7 @@ lost_nested {T} {S} a x y b room seen handed enters loss leaves free =
       free = λ other. ap (λ (v : RoomsView (Value T S)). is_held v other) b_is ∙ book_visit_free a at_once seen seen visit free other;
       risen = subst (λ n. CountHasRisen (a.lost room) n) (sym (ap (λ (v : RoomsView (Value T S)). v.lost room) b_is ∙ put_same a.lost room (y.lost room))) loss_e.risen;
       others = λ other n. ap (λ (v : RoomsView (Value T S)). v.lost other) b_is ∙ put_other a.lost room (y.lost room) other n;
+      moves = ap (λ (v : RoomsView (Value T S)). v.moves) b_is;
     }
 
 module _ {T S : Type 0} (a b : RoomsView (Value T S)) (s : SessionView) (room : ℕ) where

@@ -6,8 +6,8 @@ use Rattle.gx_base.specs.Replays.{put}
 use Rattle.gx_base.specs.RoomViews.{RoomView}
 use Rattle.gate_core.specs.Entries.{has_entry}
 use Rattle.gate_core.specs.Views.{GateView, release}
-use Rattle.speculation.proofs.Putting.{numbers_equal, same_number}
-use Rattle.rooms.specs.RoomsViews.{RoomsView, nowhere, is_held, holds_book, commits_in, commits_entered, entries_for, is_release, told_with, entered, left}
+use Rattle.speculation.proofs.Putting.{no_bool, numbers_equal, same_number}
+use Rattle.rooms.specs.RoomsViews.{RoomsView, nowhere, is_held, holds_book, commits_in, commits_entered, entries_for, is_release, told_with, visited, entered, left}
 use Rattle.rooms.specs.HandedOut.{IsHandedOut, MayHaveMark}
 use Rattle.rooms.specs.Values.{tells}
 use Rattle.rooms.specs.declared.values.Value.{Value}
@@ -16,6 +16,8 @@ use Rattle.rooms.proofs.CallerLemmas.{put_same, put_other, put_back_again, held_
 use Rattle.iterate.specs.Places.{no_gate, gate_of, IfTold}
 use Rattle.iterate.specs.RoomLists.{is_among, rest_of, AreAbove, AreRoomsRising, AreRoomsBelow}
 use Rattle.iterate.specs.Visits.{MayLeaveGate, WasVisited, AreReleased, MayRelease}
+use Rattle.iterate.specs.TurnMoves.{gates_visited}
+use Rattle.iterate.proofs.MovedGates.{visited_then, visited_same}
 use Rattle.iterate.proofs.Standing.{told_gate}
 use Rattle.iterate.proofs.Visiting.{other_than_room}
 
@@ -73,6 +75,7 @@ module _ {T S : Type 0} (worker iter number : ℕ) where
     held = refl;
     released = λ room e. refl;
     lost = refl;
+    moves = refl;
   }
 
   -- ---- one room more
@@ -85,7 +88,7 @@ module _ {T S : Type 0} (worker iter number : ℕ) where
     abbrev seen : RoomView
     seen = tells {T = T} {S = S} (Object was)
 
-    y_of : {A : Type 0} → (f : RoomsView (Value T S) → A) → f y ≡ f (left tells (entered x room seen) room (Object now))
+    y_of : {A : Type 0} → (f : RoomsView (Value T S) → A) → f y ≡ f (left tells (entered tells x room (Object was)) room (Object now))
     y_of f = ap f visit.visit
 
     none_held : (o : Option RoomView) → is_some o ≡ false → o ≡ None
@@ -159,15 +162,36 @@ module _ {T S : Type 0} (worker iter number : ℕ) where
     released_by other e true = ap (λ (b : Bool). (if b then nowhere else put x.released room true) other) not_book ∙ put_other x.released room true other e
     released_by other e false = ap (λ (b : Bool). (if b then nowhere else x.released) other) not_book
 
-    entered_released : (entered x room seen).released ≡ x.released
+    entered_released : (entered tells x room (Object was)).released ≡ x.released
     entered_released = ap (λ (b : Bool). if b then nowhere else x.released) not_book
 
     released_at : (other : ℕ) → is_among more other ≡ false → y.released other ≡ a.released other
     released_at other m =
         let parts : (is_among front other ≡ false) × ((room == other) ≡ false) = both_false (is_among front other) (room == other) (sym (among_append front room other) ∙ m) in
         y_of (λ v. v.released other)
-        ∙ ap (λ f. (if room == x.book then nowhere else (if is_release (entered x room seen) now.mark then put f room true else f)) other) entered_released
-        ∙ released_by other parts.1 (is_release (entered x room seen) now.mark) ∙ h.released other parts.0
+        ∙ ap (λ f. (if room == x.book then nowhere else (if is_release (entered tells x room (Object was)) now.mark then put f room true else f)) other) entered_released
+        ∙ released_by other parts.1 (is_release (entered tells x room (Object was)) now.mark) ∙ h.released other parts.0
+
+    abbrev gone : (ℕ → GateView) → ℕ → GateView
+    gone gates other = release (gates other) worker iter number
+
+    apart_by : (other : ℕ) → is_among front other ≡ true → (c : Bool) → (room == other) ≡ c → (room == other) ≡ false
+    apart_by other m true e = absurd (no_bool (is_among front other) m (subst (λ n. is_among front n ≡ false) (numbers_equal room other e) new))
+    apart_by other m false e = e
+
+    same_gate : (other : ℕ) → is_among front other ≡ true → h.was other ≡ gates_now other
+    unfolding gates_now
+    same_gate other m = sym (put_other h.was room was other (apart_by other m (room == other) refl))
+
+    at_room : gates_now room ≡ was
+    unfolding gates_now
+    at_room = put_same h.was room was
+
+    y_moves : y.moves ≡ gates_visited gates_now (gone gates_now) more a.moves
+    y_moves =
+        y_of (λ v. v.moves) ∙ ap (visited room (Object was) (Object now)) (h.moves ∙ visited_same h.was (gone h.was) gates_now (gone gates_now) front same_gate (λ other m. ap (λ (g : GateView). release g worker iter number) (same_gate other m)) a.moves)
+        ∙ (λ i. visited room (Object (sym at_room i)) (Object (release (sym at_room i) worker iter number)) (gates_visited gates_now (gone gates_now) front a.moves))
+        ∙ sym (visited_then gates_now (gone gates_now) front room a.moves)
 
     pub one_released : AreReleased a y worker iter number more
     unfolding gates_now
@@ -183,6 +207,7 @@ module _ {T S : Type 0} (worker iter number : ℕ) where
       held = y_held ∙ h.held;
       released = released_at;
       lost = y_of (λ v. v.lost) ∙ h.lost;
+      moves = y_moves;
     }
 
   -- ---- that the gate of a room may be released and left
@@ -215,20 +240,20 @@ module _ {T S : Type 0} (worker iter number : ℕ) where
         let n : was.mark ≤ commits_entered x = subst (λ (b : Bool). was.mark ≤ (if b then commits_entered x + 1 else commits_entered x)) unreleased m in
         subst (λ k. was.mark ≤ k) counted n
 
-    mark_by : (y : RoomsView (Value T S)) (was : GateView) (b : Bool) → y ≡ entered x room (tells {T = T} {S = S} (Object was)) → MayHaveMark y room (if b then number + 1 else was.mark)
+    mark_by : (y : RoomsView (Value T S)) (was : GateView) (b : Bool) → y ≡ entered tells x room (Object was) → MayHaveMark y room (if b then number + 1 else was.mark)
     mark_by y was true e =
-        let z : RoomsView (Value T S) = entered x room (tells {T = T} {S = S} (Object was)) in
+        let z : RoomsView (Value T S) = entered tells x room (Object was) in
         let not_book : (room == x.book) ≡ false = other_than_room room x.book room_in_range in
-        let holds : holds_book z ≡ true = held_elsewhere x room (tells {T = T} {S = S} (Object was)) x.book not_book ∙ book_held in
-        let count : commits_entered z ≡ number = commits_entered_elsewhere x room (tells {T = T} {S = S} (Object was)) not_book ∙ counted in
+        let holds : holds_book z ≡ true = held_elsewhere tells x room (Object was) x.book not_book ∙ book_held in
+        let count : commits_entered z ≡ number = commits_entered_elsewhere tells x room (Object was) not_book ∙ counted in
         subst (λ (v : RoomsView (Value T S)). MayHaveMark v room (number + 1)) (sym e) (inr ((λ i. holds i && (number + 1 == count i + 1)) ∙ same_number (number + 1)))
     mark_by y was false e =
-        subst (λ (v : RoomsView (Value T S)). MayHaveMark v room was.mark) (sym e) (inl (sym (mark_entered_here x room (tells {T = T} {S = S} (Object was)))))
+        subst (λ (v : RoomsView (Value T S)). MayHaveMark v room was.mark) (sym e) (inl (sym (mark_entered_here tells x room (Object was))))
 
-    pub may_leave : (y : RoomsView (Value T S)) (was left_as : GateView) → y ≡ entered x room (tells {T = T} {S = S} (Object was)) → left_as ≡ release was worker iter number → MayLeaveGate y room left_as.mark
+    pub may_leave : (y : RoomsView (Value T S)) (was left_as : GateView) → y ≡ entered tells x room (Object was) → left_as ≡ release was worker iter number → MayLeaveGate y room left_as.mark
     may_leave y was left_as e is = record {
       in_range = subst (λ (v : RoomsView (Value T S)). room < v.book) (sym e) room_in_range;
-      held = ap (λ (v : RoomsView (Value T S)). is_held v room) e ∙ held_entered x room (tells {T = T} {S = S} (Object was));
+      held = ap (λ (v : RoomsView (Value T S)). is_held v room) e ∙ held_entered tells x room (Object was);
       mark = subst (λ n. MayHaveMark y room n) (sym (ap (λ (g : GateView). g.mark) is)) (mark_by y was (has_entry worker iter was.live) e);
     }
 

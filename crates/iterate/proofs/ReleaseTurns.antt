@@ -1,5 +1,5 @@
 -- The turns of a session that makes a commit.
-use Rattle.std.specs.Prelude.{◌≡◌, ◌≢◌, ◌⊎◌, ℕ, ◌+◌, ◌<◌, ◌≤◌, Bool, true, false, ◌||◌, ◌==◌, if◌then◌else◌, Option, Some, None, List, [], ◌++◌, length, is_some, Ok, refl}
+use Rattle.std.specs.Prelude.{◌≡◌, ◌≢◌, ◌⊎◌, ℕ, ◌+◌, ◌<◌, ◌≤◌, Bool, true, false, ◌||◌, ◌==◌, if◌then◌else◌, Option, Some, None, List, [], ◌∷◌, ◌++◌, length, is_some, Ok, refl}
 use Rattle.std.specs.Cmp.{nat_eq_equiv}
 use Rattle.std.proofs.lemmas.List.{length_push}
 use Rattle.std.proofs.Common.{sym, ◌∙◌, ap, subst, inl, inr, arith}
@@ -14,7 +14,7 @@ use Rattle.commit_book.specs.BookViews.{BookView}
 use Rattle.speculation.specs.Machines.{Place}
 use Rattle.speculation.proofs.Putting.{no_bool, numbers_equal, same_number}
 use Rattle.speculation.proofs.GateTurns.{log_releases}
-use Rattle.rooms.specs.RoomsViews.{RoomsView, is_held, commits_in, commits_entered, entries_for, told_with, left as rooms_left}
+use Rattle.rooms.specs.RoomsViews.{RoomsView, is_held, commits_in, commits_entered, entries_for, told_with, leaves as exit, left as rooms_left}
 use Rattle.rooms.specs.HandedOut.{IsLost, CountHasRisen}
 use Rattle.rooms.specs.Values.{tells}
 use Rattle.rooms.specs.declared.values.Value.{Value}
@@ -27,12 +27,14 @@ use Rattle.iterate.specs.Places.{IsLogIn, IsLogOf, IsFit, IsFitIn, IsCommitOf, A
 use Rattle.iterate.specs.RoomLists.{is_among, steps_in, before, on_from, AreRoomsRising, AreRoomsBelow}
 use Rattle.iterate.specs.SessionViews.{OpenCommit, Rests, Core, SessionView, view_in}
 use Rattle.iterate.specs.SharedTurns.{released}
+use Rattle.iterate.specs.TurnMoves.{RoomMoves, gates_visited}
 use Rattle.iterate.specs.Turns.{OthersStay, TakesTurn}
 use Rattle.iterate.specs.Visits.{AreReleased, IsReleaseCutShort, MayLeaveBook}
 use Rattle.iterate.proofs.Logs.{log_sound, sound_log, log_shown, others_release}
 use Rattle.iterate.proofs.Standing.{RoomKept, GateLeft, AreLeft, fits, told_book_itself, base_gates, base_gates_told, base_no_others, base_logs}
 use Rattle.iterate.proofs.Visiting.{SameGates, OrderedTold, carried, lost_gates, book_gates}
-use Rattle.iterate.proofs.Turning.{turned, no_loss, some_number}
+use Rattle.iterate.proofs.MovedGates.{visited_same}
+use Rattle.iterate.proofs.Turning.{turned, no_loss, lost_moves, some_number}
 use Rattle.iterate.proofs.LeftRooms.{among_both, below_end, below_front, not_among, rising_end, apart, before_is, on_from_is, part_in, steps_in_twice, steps_within}
 use Rattle.iterate.proofs.ReleaseSteps.{not_in_front, among_at}
 use Rattle.iterate.proofs.UndoTurns.{or_right}
@@ -78,6 +80,13 @@ module _ {T S : Type 0} (op : Operator) (a mid b : RoomsView (Value T S)) (s t :
 
   -- ---- what becomes of the rooms
 
+  q_released : (room : ℕ) → is_among front room ≡ true → released gates_then front s.worker iter number room ≡ release (h.was room) s.worker iter number
+  q_released room e = ap (λ (c : Bool). if c then release (gates_then room) s.worker iter number else gates_then room) e ∙ ap (λ g. release g s.worker iter number) (then_was room e)
+
+  -- the gates were entered and left so
+  pub release_moves : (moves : RoomMoves T S) → gates_visited h.was (λ room. release (h.was room) s.worker iter number) front moves ≡ gates_visited gates_then (released gates_then front s.worker iter number) front moves
+  release_moves moves = visited_same h.was (λ room. release (h.was room) s.worker iter number) gates_then (released gates_then front s.worker iter number) front (λ room e. sym (then_was room e)) (λ room e. sym (q_released room e)) moves
+
   module _ (same_iter : t.at.iter ≡ s.at.iter) (same_item : t.at.item ≡ s.at.item) (same : t.worker ≡ s.worker) (gone : (room : ℕ) → is_among front room ≡ true → part room t.at.outcome.steps ≡ [])
       (stay : (room : ℕ) → is_among front room ≡ false → part room t.at.outcome.steps ≡ part room s.at.outcome.steps) (bk now : BookView) where
     abbrev p : Place
@@ -85,9 +94,6 @@ module _ {T S : Type 0} (op : Operator) (a mid b : RoomsView (Value T S)) (s t :
 
     abbrev q : Place
     q = record { gates = released gates_then front s.worker iter number; book = now; session = t.at }
-
-    q_released : (room : ℕ) → is_among front room ≡ true → released gates_then front s.worker iter number room ≡ release (h.was room) s.worker iter number
-    q_released room e = ap (λ (c : Bool). if c then release (gates_then room) s.worker iter number else gates_then room) e ∙ ap (λ g. release g s.worker iter number) (then_was room e)
 
     q_kept : (room : ℕ) → is_among front room ≡ false → released gates_then front s.worker iter number room ≡ gates_then room
     q_kept room e = ap (λ (c : Bool). if c then release (gates_then room) s.worker iter number else gates_then room) e
@@ -239,7 +245,9 @@ module _ {T S St : Type 0} (op : Operator) (a b : RoomsView (Value T S)) (rest :
         has_turned =
             turned op a b s t p q l (release_stands op a mid b s t left c.iter number fit h after refl below book refl (book_ordered fit)) fit refl refl (book_told mid leaves) (book_ordered fit) None
             (no_loss a b s (λ room. ap (λ (v : RoomsView (Value T S)). v.lost room) leaves ∙ ap (λ f. f room) h.lost)) (Ok (events.Commit number))
-            (record { event_is = refl; place_is = refl; opened_is = refl; pushed_is = refl }, tt, tt);
+            (record { event_is = refl; place_is = refl; opened_is = refl; pushed_is = refl }, tt, tt)
+            (ap (λ (v : RoomsView (Value T S)). v.moves) leaves ∙ (λ i. exit (h.book i) (Book book) ∷ h.moves i)
+            ∙ ap (λ (ms : RoomMoves T S). exit a.book (Book book) ∷ ms) (release_moves op a mid b s t left c.iter number fit h after refl below a.moves));
         is_fit = fits a b s t p q l fit.acts refl op fit tt (b_free mid fit h leaves, refl);
       }
 
@@ -311,7 +319,9 @@ module _ {T S St : Type 0} (op : Operator) (a b : RoomsView (Value T S)) (rest :
               },
               tt,
               tt,
-            );
+            )
+            (lost_moves h.mid b h.room h.loss ∙ h.front_released.moves ∙ release_moves op a h.mid b s t h.front c.iter number fit h.front_released after refl below a.moves
+            ∙ ap (λ (xs : List ℕ). gates_visited gates q.gates xs a.moves) front_is);
         is_fit = fits a b s t p q l fit.acts refl op fit
             (subst (AreStepsWithin op.rooms) (steps_in_twice now left fewer c.log) (steps_within op.rooms now steps fit.within))
             (cut_fits now h.front h.mid h.room fit k parts rising fewer h.front_released h.loss);

@@ -23,10 +23,11 @@ use Rattle.iterate.specs.declared.session.Phase.{Phase as CodePhase}
 use Rattle.iterate.specs.declared.session.Phase.TheVariants as code
 use Rattle.iterate.specs.Places.{IsLogOf, IsFit}
 use Rattle.iterate.specs.SessionViews.{Rests, Core, SessionView, view_in, log_of, begins, IsBegun}
+use Rattle.iterate.specs.TurnMoves.{in_book}
 use Rattle.iterate.specs.Turns.{TakesTurn}
 use Rattle.iterate.specs.Visits.{BookWasVisited}
-use Rattle.iterate.proofs.Turning.{whole}
-use Rattle.iterate.proofs.BookTurns.{body_of, book_place, book_turn, lost_turn}
+use Rattle.iterate.proofs.Turning.{whole, lost_moves}
+use Rattle.iterate.proofs.BookTurns.{body_of, book_visit_moves, book_place, book_turn, lost_turn}
 
 pub found_ordered : (b : BookView) (worker iter : ℕ) (o : Option Item) → (give_found b worker iter o).ordered ≡ b.ordered
 found_ordered b worker iter None = refl
@@ -47,7 +48,7 @@ module _ {T S St : Type 0} (op : Operator) (a b : RoomsView (Value T S)) (rest :
   pub take_lost : IsFit op a idle_view → IsLost a b a.book → TakesTurn op a b idle_view idle_view (Ok events.Busy)
   take_lost fit loss =
       lost_turn op a b idle_view idle_view a.book loss fit refl refl refl (same_number a.book) (λ other es h. h) fit.within (no_calls fit) (Ok events.Busy)
-      (record { event_is = refl; place_is = refl; opened_is = refl; pushed_is = refl }, tt, tt)
+      (record { event_is = refl; place_is = refl; opened_is = refl; pushed_is = refl }, tt, tt) (lost_moves a b a.book loss)
 
   pub take_none : IsFit op a idle_view → (was : BookView) → BookWasVisited a b was was → free_item was ≡ None → TakesTurn op a b idle_view idle_view (Ok events.Idle)
   take_none fit was visit none =
@@ -55,13 +56,13 @@ module _ {T S St : Type 0} (op : Operator) (a b : RoomsView (Value T S)) (rest :
       let p : Place = book_place a s was in
       let u : Turned = record { event = event.Idle; place = p } in
       book_turn op a b s s was was visit fit refl refl refl refl (λ room es h. h) fit.within (no_calls fit) (Ok events.Idle)
-      (whole op a b s s p p u events.Idle (takes p.gates was None none) refl refl refl refl refl refl tt)
+      (whole op a b s s p p u events.Idle (takes p.gates was None none) refl refl refl refl refl refl tt) (book_visit_moves a b was was visit)
 
   pub take_stops : IsFit op a idle_view → (was : BookView) → BookWasVisited a b was was → TakesTurn op a b idle_view idle_view (Err stops.NoMemory)
   take_stops fit was visit =
       let s : SessionView = idle_view in
       book_turn op a b s s was was visit fit refl refl refl refl (λ room es h. h) fit.within (no_calls fit) (Err stops.NoMemory)
-      (record { may = refl; cause = tt; held = λ r e. absurd (cc); place_is = refl; opened_is = refl; pushed_is = refl })
+      (record { may = refl; cause = tt; held = λ r e. absurd (cc); place_is = refl; opened_is = refl; pushed_is = refl }) (in_book refl (book_visit_moves a b was was visit))
 
   fresh_log : c.log ≡ [] → (item : Item) (phase : CodePhase St) → log_of phase [] ≡ [] → (room : ℕ) (es : List Entry) → IsLogOf room idle_view es → IsLogOf room (view_in rest (begins c item) phase) es
   fresh_log none item phase l room es h =
@@ -81,7 +82,7 @@ module _ {T S St : Type 0} (op : Operator) (a b : RoomsView (Value T S)) (rest :
       (subst (RunsTo (op.plan item) [] []) (sym begun_is) begun, tt)
       (Ok (events.Take item))
       (whole op a b s t p q u (events.Take item) (takes p.gates was (Some item) found) refl refl
-      (λ i. record { gates = p.gates; book = give_found was c.worker c.next_iter (found i); session = record t.at { phase = Running (begun_is i) } }) refl refl refl tt)
+      (λ i. record { gates = p.gates; book = give_found was c.worker c.next_iter (found i); session = record t.at { phase = Running (begun_is i) } }) refl refl refl tt) (book_visit_moves a b was now visit)
   take_some fit was item code.Idle visit found begun_is = absurd begun_is
   take_some fit was item (code.Asking st room call) visit found begun_is = absurd begun_is
   take_some fit was item code.Finished visit found begun_is = absurd begun_is

@@ -17,7 +17,7 @@ use Rattle.iterate.specs.Needs.{gone_on, needs}
 use Rattle.iterate.specs.Places.{IsFit, IsBookIn, StandsOn}
 use Rattle.iterate.specs.SessionViews.{OpenCommit, SessionView}
 use Rattle.iterate.specs.SharedTurns.{shared_in, pushes_by}
-use Rattle.iterate.specs.Turns.{event_of, TellsRight, IsLostIn, GoesWell, IsAfter, Answers, HasTurned}
+use Rattle.iterate.specs.Turns.{event_of, TellsRight, IsLostIn, GoesWell, IsAfter, Answers, HasMoved, HasTurned}
 use Rattle.iterate.proofs.Standing.{AreLeft, stands, same_rooms}
 
 pub some_number : {x y : ℕ} → Some x ≡ Some y → x ≡ y
@@ -39,6 +39,10 @@ module _ {T S : Type 0} where
 
   pub no_loss : (a b : RoomsView (Value T S)) (s : SessionView) → ((room : ℕ) → b.lost room ≡ a.lost room) → IsLostIn a b s None
   no_loss a b s h = record { needed = λ room e. absurd (cc); risen = λ room e. absurd (cc); others = λ room n. h room }
+
+  -- a lost take is no move
+  pub lost_moves : (a b : RoomsView (Value T S)) (room : ℕ) → IsLost a b room → b.moves ≡ a.moves
+  lost_moves a b room h = ap (λ (v : RoomsView (Value T S)). v.moves) h.same
 
   loss_others : (a b : RoomsView (Value T S)) (room other : ℕ) → IsLost a b room → Some room ≢ Some other → (c : Bool) → (room == other) ≡ c → b.lost other ≡ a.lost other
   loss_others a b room other h n true e = absurd (n (ap Some (numbers_equal room other e)))
@@ -69,8 +73,8 @@ module _ {T S : Type 0} where
     )
 
     pub turned : AreLeft a b s t p q → StandsOn a s p → IsFit op a s → t.worker ≡ s.worker → q.session ≡ t.at → IsBookIn b t.opened q.book → q.book.ordered ≡ a.ordered
-        → (lost : Option ℕ) → IsLostIn a b s lost → (r : Result CodeEvent Stop) → Answers op a.book s t p q lost r → HasTurned op a b s t r
-    turned h stood fit same session_is book ordered lost found r answers = record {
+        → (lost : Option ℕ) → IsLostIn a b s lost → (r : Result CodeEvent Stop) → Answers op a.book s t p q lost r → HasMoved a.book s p q lost r a.moves b.moves → HasTurned op a b s t r
+    turned h stood fit same session_is book ordered lost found r answers moved = record {
       p = p;
       q = q;
       lost = lost;
@@ -78,6 +82,7 @@ module _ {T S : Type 0} where
       stands = stands a b s t p q h fit.acts same stood session_is book (ordered ∙ sym h.ordered);
       found = found;
       answers = answers;
+      moved = moved;
       same_rooms = same_rooms a b s t p q h fit.acts same stood;
       same_worker = same;
     }

@@ -1,5 +1,5 @@
 -- The turns of a session that undoes.
-use Rattle.std.specs.Prelude.{◌≡◌, ◌≢◌, ℕ, ◌<◌, Bool, true, false, ◌||◌, ◌==◌, if◌then◌else◌, Option, Some, None, List, [], ◌∷◌, ◌++◌, length, IsSome, Ok, refl}
+use Rattle.std.specs.Prelude.{◌≡◌, ◌≢◌, ℕ, ◌<◌, Bool, true, false, not, ◌||◌, ◌==◌, if◌then◌else◌, Option, Some, None, List, [], ◌∷◌, ◌++◌, length, IsSome, Ok, refl}
 use Rattle.std.proofs.Common.{sym, ◌∙◌, ap, subst, arith}
 use Rattle.std.proofs.lemmas.List.{append-nil}
 use Rattle.std.specs.Option.{option_to_list}
@@ -26,16 +26,17 @@ use Rattle.iterate.specs.declared.session.Phase.TheVariants as code
 use Rattle.iterate.specs.Needs.{needs, is_last, to_put_back}
 use Rattle.iterate.specs.Places.{IsLogIn, IsLogOf, IsFit, AreStepsWithin, IsBookIn, StandsOn}
 use Rattle.iterate.specs.SessionViews.{Rests, Core, SessionView, view_in}
+use Rattle.iterate.specs.TurnMoves.{at_gate, at_book, enters_book, leaves_book}
 use Rattle.iterate.specs.Turns.{TakesTurn}
 use Rattle.iterate.specs.Visits.{BookWasVisited, WasVisited}
 use Rattle.iterate.proofs.Logs.{log_sound, sound_log, others_undo}
 use Rattle.iterate.proofs.Standing.{AreLeft, fits, told_book, base_place, base_gates, base_book_in, base_stands}
-use Rattle.iterate.proofs.Visiting.{SameGates, none_left, same_gates}
-use Rattle.iterate.proofs.Turning.{whole, no_loss, turned}
-use Rattle.iterate.proofs.GateVisits.{gate_place, gate_turn, gate_log, gate_visit_free, gate_visit_lost, gate_visit_book}
+use Rattle.iterate.proofs.Visiting.{SameGates, other_than_book, none_left, same_gates}
+use Rattle.iterate.proofs.Turning.{whole, no_loss, lost_moves, turned}
+use Rattle.iterate.proofs.GateVisits.{gate_place, gate_turn, gate_log, visited_at, gate_visit_free, gate_visit_lost, gate_visit_moves, gate_visit_book}
 use Rattle.rooms.proofs.CallerLemmas.{put_same}
-use Rattle.iterate.proofs.NestedVisits.{LostNested, lost_nested, nested_loss, nested_before, nested_after, nested_told, nested_lost, nested_free}
-use Rattle.iterate.proofs.BookTurns.{free_of, book_stands, book_place, book_turn, lost_turn}
+use Rattle.iterate.proofs.NestedVisits.{LostNested, lost_nested, nested_loss, nested_before, nested_after, nested_told, nested_lost, nested_moves, nested_free}
+use Rattle.iterate.proofs.BookTurns.{free_of, book_visit_moves, book_stands, book_place, book_turn, lost_turn}
 
 some_same : {x y : Step} → Some x ≡ Some y → x ≡ y
 some_same e = cc
@@ -89,10 +90,16 @@ module _ {T S St : Type 0} (op : Operator) (a b : RoomsView (Value T S)) (rest :
   none_before : (steps : List Step) → last_step steps ≡ None → has_no_step (steps_before steps) ≡ true
   none_before steps e = ap (λ xs. has_no_step (steps_before xs)) (last_is_none steps e)
 
-  busy : (room : ℕ) → IsFit op a undoing_view → IsLost a b room → needs a.book undoing_view room ≡ true → TakesTurn op a b undoing_view undoing_view (Ok events.Busy)
-  busy room fit loss needed =
+  -- nothing is entered before a held room that is sought first
+  busy : (room : ℕ) → IsFit op a undoing_view → IsLost a b room → needs a.book undoing_view room ≡ true → ((a.book == room) || not (has_no_step (steps_before c.log))) ≡ true → TakesTurn op a b undoing_view undoing_view (Ok events.Busy)
+  busy room fit loss needed first =
+      let p : Place = base_place a undoing_view in
       lost_turn op a b undoing_view undoing_view room loss fit refl refl refl needed (λ other es h. h) fit.within tt (Ok events.Busy)
       (record { event_is = refl; place_is = refl; opened_is = refl; pushed_is = refl }, tt, tt)
+      (lost_moves a b room loss ∙ sym (ap (λ (k : Bool). if k then a.moves else at_book a.book p.gates p.gates p.book p.book a.moves) first))
+
+  book_first : ((a.book == a.book) || not (has_no_step (steps_before c.log))) ≡ true
+  book_first = ap (λ (k : Bool). k || not (has_no_step (steps_before c.log))) (same_number a.book)
 
   pub put_back_late : IsFit op a undoing_view → last_step c.log ≡ None → (was : BookView) → BookWasVisited a b was (put_back was c.worker c.iter) → TakesTurn op a b undoing_view over_view (Ok events.Idle)
   put_back_late fit none was visit =
@@ -102,10 +109,10 @@ module _ {T S St : Type 0} (op : Operator) (a b : RoomsView (Value T S)) (rest :
       let p : Place = book_place a s was in
       let u : Turned = record { event = event.Idle; place = let_go p c.worker s.at } in
       book_turn op a b s t was (put_back was c.worker c.iter) visit fit refl refl refl refl (no_log empty) tt refl (Ok events.Idle)
-      (whole op a b s t p (let_go p c.worker s.at) u events.Idle (undoes p.gates was None none) refl refl refl refl refl refl tt)
+      (whole op a b s t p (let_go p c.worker s.at) u events.Idle (undoes p.gates was None none) refl refl refl refl refl refl tt) (book_visit_moves a b was (put_back was c.worker c.iter) visit)
 
   pub put_back_lost : IsFit op a undoing_view → last_step c.log ≡ None → IsLost a b a.book → TakesTurn op a b undoing_view undoing_view (Ok events.Busy)
-  put_back_lost fit none loss = busy a.book fit loss (needs_book a.book (none_before c.log none))
+  put_back_lost fit none loss = busy a.book fit loss (needs_book a.book (none_before c.log none)) book_first
 
   -- ---- a call is taken back, and others are left
 
@@ -165,9 +172,11 @@ module _ {T S St : Type 0} (op : Operator) (a b : RoomsView (Value T S)) (rest :
       (whole op a b s t p q u (events.Undo last.room last.call) (undoes p.gates bk (Some last) e) refl refl
       ((λ i. record { gates = put (put (base_gates a) last.room was) last.room (same_gate i); book = bk; session = t.at }) ∙ sym (unless_true (has_no_step (steps_before c.log)) (record { gates = put p.gates last.room (undo_last (p.gates last.room) c.worker c.iter); book = put_back bk c.worker c.iter; session = ended s.at })
       (record { gates = put p.gates last.room (undo_last (p.gates last.room) c.worker c.iter); book = bk; session = t.at }) others)) refl refl refl tt)
+      (gate_visit_moves a b last.room was (undo_last was c.worker c.iter) visit ∙ visited_at a last.room was (undo_last was c.worker c.iter) a.moves
+      ∙ sym (ap (λ (k : Bool). if k then leaves_book a.book p.gates q.gates bk bk (at_gate a.book p.gates q.gates bk bk last.room (enters_book a.book p.gates q.gates bk bk a.moves)) else at_gate a.book p.gates q.gates bk bk last.room a.moves) others))
 
-  pub undo_one_lost : IsFit op a undoing_view → (last : Step) → last_step c.log ≡ Some last → IsLost a b last.room → TakesTurn op a b undoing_view undoing_view (Ok events.Busy)
-  undo_one_lost fit last e loss = busy last.room fit loss (needs_room a.book last e)
+  pub undo_one_lost : IsFit op a undoing_view → (last : Step) → last_step c.log ≡ Some last → has_no_step (steps_before c.log) ≡ false → IsLost a b last.room → TakesTurn op a b undoing_view undoing_view (Ok events.Busy)
+  undo_one_lost fit last e others loss = busy last.room fit loss (needs_room a.book last e) (or_right (a.book == last.room) (not (has_no_step (steps_before c.log))) (ap not others))
 
   -- the only call's log is empty before it
   only_before : has_no_step (steps_before c.log) ≡ true → steps_before c.log ≡ []
@@ -182,7 +191,7 @@ module _ {T S St : Type 0} (op : Operator) (a b : RoomsView (Value T S)) (rest :
   -- ---- the only call is taken back, and the item put back
 
   pub undo_only : (x y : RoomsView (Value T S)) (seen : BookView) (last : Step) → IsFit op a undoing_view → last_step c.log ≡ Some last → has_no_step (steps_before c.log) ≡ true
-      → IsHandedOut tells a a.book (Book seen) → x ≡ entered a a.book (tells {T = T} {S = S} (Book seen)) → (was : GateView) → WasVisited x y last.room was (undo_last was c.worker c.iter)
+      → IsHandedOut tells a a.book (Book seen) → x ≡ entered tells a a.book (Book seen) → (was : GateView) → WasVisited x y last.room was (undo_last was c.worker c.iter)
       → b ≡ left tells y y.book (Book (put_back seen c.worker c.iter)) → TakesTurn op a b undoing_view over_view (Ok (events.Undo last.room last.call))
   undo_only x y seen last fit e only handed enters was visit leaves =
       let s : SessionView = undoing_view in
@@ -206,14 +215,17 @@ module _ {T S St : Type 0} (op : Operator) (a b : RoomsView (Value T S)) (rest :
       ((λ i. record { gates = put (put (base_gates a) last.room was) last.room (same_gate i); book = now; session = t.at })
       ∙ sym (where_true (has_no_step (steps_before c.log)) (record { gates = put p.gates last.room (undo_last (p.gates last.room) c.worker c.iter); book = now; session = t.at })
       (record { gates = put p.gates last.room (undo_last (p.gates last.room) c.worker c.iter); book = seen; session = undone_to s.at (steps_before c.log) }) only)) refl refl refl tt)
+      (nested_moves a x y b last.room seen now was (undo_last was c.worker c.iter) handed enters visit leaves
+      ∙ ap (leaves_book a.book p.gates q.gates seen now) (visited_at a last.room was (undo_last was c.worker c.iter) (enters_book a.book p.gates q.gates seen now a.moves))
+      ∙ sym (ap (λ (k : Bool). if k then leaves_book a.book p.gates q.gates seen now (at_gate a.book p.gates q.gates seen now last.room (enters_book a.book p.gates q.gates seen now a.moves)) else at_gate a.book p.gates q.gates seen now last.room a.moves) only))
 
   pub undo_only_busy : IsFit op a undoing_view → has_no_step (steps_before c.log) ≡ true → IsLost a b a.book → TakesTurn op a b undoing_view undoing_view (Ok events.Busy)
-  undo_only_busy fit only loss = busy a.book fit loss (needs_book a.book only)
+  undo_only_busy fit only loss = busy a.book fit loss (needs_book a.book only) book_first
 
   -- the book was entered, but the call's room is held
-  pub undo_only_lost : (x y : RoomsView (Value T S)) (seen : BookView) (last : Step) → IsFit op a undoing_view → last_step c.log ≡ Some last → IsHandedOut tells a a.book (Book seen)
-      → x ≡ entered a a.book (tells {T = T} {S = S} (Book seen)) → IsLost x y last.room → b ≡ left tells y y.book (Book seen) → TakesTurn op a b undoing_view undoing_view (Ok events.Busy)
-  undo_only_lost x y seen last fit e handed enters loss leaves =
+  pub undo_only_lost : (x y : RoomsView (Value T S)) (seen : BookView) (last : Step) → IsFit op a undoing_view → last_step c.log ≡ Some last → has_no_step (steps_before c.log) ≡ true → IsHandedOut tells a a.book (Book seen)
+      → x ≡ entered tells a a.book (Book seen) → IsLost x y last.room → b ≡ left tells y y.book (Book seen) → TakesTurn op a b undoing_view undoing_view (Ok events.Busy)
+  undo_only_lost x y seen last fit e only handed enters loss leaves =
       let s : SessionView = undoing_view in
       let p : Place = book_place a s seen in
       let l : LostNested a b last.room seen = lost_nested a x y b last.room seen handed enters loss leaves (free_of op a s fit refl) in
@@ -221,7 +233,9 @@ module _ {T S St : Type 0} (op : Operator) (a b : RoomsView (Value T S)) (rest :
       record {
         has_turned =
             turned op a b s s p p h (book_stands op a s seen fit refl handed) fit refl refl l.told (handed.suits.ordered_as refl) (Some last.room)
-            (nested_loss a b s last.room l (needs_room a.book last e)) (Ok events.Busy) (record { event_is = refl; place_is = refl; opened_is = refl; pushed_is = refl }, tt, tt);
+            (nested_loss a b s last.room l (needs_room a.book last e)) (Ok events.Busy) (record { event_is = refl; place_is = refl; opened_is = refl; pushed_is = refl }, tt, tt)
+            (l.moves ∙ sym (ap (λ (k : Bool). if k then a.moves else at_book a.book p.gates p.gates seen seen a.moves)
+            ((λ i. other_than_book a.book last.room (subst (λ n. last.room < n) (sym fit.book) (within_last op.rooms c.log last e fit.within)) i || not (only i)))));
         is_fit = fits a b s s p p h fit.acts refl op fit fit.within (l.free, tt);
       }
 

@@ -3,7 +3,6 @@ use Rattle.std.specs.Prelude.{◌≡◌, ◌⊎◌, ℕ, ◌<◌, Bool, true, fa
 use Rattle.std.proofs.Common.{sym, ◌∙◌, ap, subst, inl, inr, arith}
 use Rattle.gx_base.specs.declared.acts.Entry.{Entry}
 use Rattle.gx_base.specs.Replays.{put}
-use Rattle.gx_base.specs.RoomViews.{RoomView}
 use Rattle.gx_base.specs.Entries.{entries_by}
 use Rattle.gate_core.specs.Views.{GateView}
 use Rattle.commit_book.specs.BookViews.{BookView}
@@ -47,8 +46,8 @@ module _ {T S : Type 0} where
   same_gates a = record { book = refl; ordered = refl; acts_for = refl; telling = refl; ordered_told = λ l. l; live = λ room l. refl; told = λ room l. refl }
 
   -- entered, or not entered as it was lost
-  pub entered_gates : (a : RoomsView (Value T S)) (room : ℕ) (seen : RoomView) → SameGates a (entered a room seen)
-  entered_gates a room seen = record { book = refl; ordered = refl; acts_for = refl; telling = refl; ordered_told = λ l. l; live = λ r l. refl; told = λ r l. refl }
+  pub entered_gates : (a : RoomsView (Value T S)) (room : ℕ) (value : Value T S) → SameGates a (entered tells a room value)
+  entered_gates a room value = record { book = refl; ordered = refl; acts_for = refl; telling = refl; ordered_told = λ l. l; live = λ r l. refl; told = λ r l. refl }
 
   pub lost_gates : (a b : RoomsView (Value T S)) (room : ℕ) → IsLost a b room → SameGates a b
   lost_gates a b room h = record {
@@ -114,10 +113,10 @@ module _ {T S : Type 0} where
 
     -- ---- one gate was left
 
-    module _ (x y : RoomsView (Value T S)) (room : ℕ) (seen : RoomView) (was now : GateView) (before : SameGates a x) (visit : y ≡ left tells (entered x room seen) room (Object now)) (after : SameGates y b)
+    module _ (x y : RoomsView (Value T S)) (room : ℕ) (was now : GateView) (before : SameGates a x) (visit : y ≡ left tells (entered tells x room (Object was)) room (Object now)) (after : SameGates y b)
         (below : room < a.book) (handed : IsHandedOut tells x room (Object was)) (p_has : p.gates room ≡ was) (q_has : q.gates ≡ put p.gates room now)
         (log : IsLogOf room t now.live) (others : OthersStay s.worker was.live now.live) (elsewhere : (other : ℕ) → (room == other) ≡ false → (es : List Entry) → IsLogOf other s es → IsLogOf other t es) where
-      field_of : {A : Type 0} → (f : RoomsView (Value T S) → A) → f y ≡ f (left tells (entered x room seen) room (Object now))
+      field_of : {A : Type 0} → (f : RoomsView (Value T S) → A) → f y ≡ f (left tells (entered tells x room (Object was)) room (Object now))
       field_of f = ap f visit
 
       y_book : y.book ≡ a.book

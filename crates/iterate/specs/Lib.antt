@@ -5,6 +5,7 @@ pub mod Places
 pub mod Visits
 pub mod Bodies
 pub mod SharedTurns
+pub mod TurnMoves
 pub mod Turns
 pub mod EventViews
 pub mod Plays

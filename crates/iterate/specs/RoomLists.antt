@@ -1,5 +1,6 @@
 -- Lists of rooms, and the steps that are in them.
-use Rattle.std.specs.Prelude.{ℕ, ◌<◌, ⊤, Bool, false, ◌||◌, ◌==◌, if◌then◌else◌, List, [], ◌∷◌, filter}
+use Rattle.std.specs.Prelude.{◌≡◌, ℕ, ◌<◌, ◌≤◌, ⊤, Bool, false, ◌||◌, ◌==◌, if◌then◌else◌, Option, Some, None, List, [], ◌∷◌, length, filter}
+use Rattle.std.specs.List.{insert}
 use Rattle.std.specs.Ordering.{nat_cmp}
 use Rattle.std.specs.BTreeSet.{insert_key}
 use Rattle.gx_base.specs.declared.acts.Step.{Step}
@@ -29,6 +30,11 @@ on_from (x ∷ xs) room = if x == room then x ∷ xs else on_from xs room
 abbrev pub rest_of : List ℕ → List ℕ
 rest_of [] = []
 rest_of (x ∷ xs) = xs
+
+-- with the room put there, the rooms are those with it. None where they are so already
+abbrev pub IsPlaceFor : List ℕ → ℕ → Option ℕ → Type 0
+IsPlaceFor rooms room None = insert_key nat_cmp rooms room ≡ rooms
+IsPlaceFor rooms room (Some place) = (place ≤ length rooms) × (insert_key nat_cmp rooms room ≡ insert rooms place room)
 
 -- ---- rising numbers
 

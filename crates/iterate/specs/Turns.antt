@@ -13,7 +13,7 @@ use Rattle.speculation.specs.Limits as limit
 use Rattle.speculation.specs.Machines.{Place, entry_of, turn_at}
 use Rattle.speculation.specs.Sessions.{Phase, Idle, Running, Finished, Undoing}
 use Rattle.rooms.specs.HandedOut.{CountHasRisen}
-use Rattle.rooms.specs.RoomsViews.{RoomsView}
+use Rattle.rooms.specs.RoomsViews.{Move, RoomsView}
 use Rattle.rooms.specs.declared.values.Value.{Value}
 use Rattle.iterate.specs.declared.events.Event.{Event as CodeEvent}
 use Rattle.iterate.specs.declared.events.Event.TheVariants as code
@@ -23,6 +23,7 @@ use Rattle.iterate.specs.Needs.{gone_on, needs}
 use Rattle.iterate.specs.Places.{gate_of, IfTold, IsFit, StandsOn}
 use Rattle.iterate.specs.SessionViews.{OpenCommit, SessionView}
 use Rattle.iterate.specs.SharedTurns.{Shared, shared_turn, stopped_at}
+use Rattle.iterate.specs.TurnMoves.{turn_moves, StopMoves}
 
 -- ---- events
 
@@ -140,7 +141,13 @@ pub record AreSameRooms {T S : Type 0} (before after : RoomsView (Value T S)) (w
   pub live : (room : ℕ) → room < before.book → OthersStay worker (before.live room) (after.live room)
   pub live_told : (room : ℕ) → room < before.book → IfTold (before.told room) (λ was. IfTold (after.told room) (λ now. OthersStay worker (gate_of was).live (gate_of now).live))
 
--- A turn: on some place that the rooms and the session stand on before it, and one after it
+-- the moves of a turn are those that its event calls for, by the values that the places have
+abbrev pub HasMoved : {T S : Type 0} → (book : ℕ) → SessionView → (p q : Place) → Option ℕ → Result CodeEvent Stop → (moves now : List (Move (Value T S))) → Type 0
+HasMoved book session p q lost (Ok event) moves now = now ≡ turn_moves book p.gates q.gates p.book q.book session.worker (gone_on session.at) session.opened lost (event_of event) moves
+HasMoved book session p q lost (Err stop) moves now = StopMoves book p.gates q.gates p.book q.book stop (gone_on session.at).phase session.at.outcome.steps lost moves now
+
+-- A turn: on some place that the rooms and the session stand on before it, and one after it. In the rooms that it entered, these are what
+-- was handed out and what was left
 pub record HasTurned {T S : Type 0} (op : Operator) (rooms_before rooms_after : RoomsView (Value T S)) (before after : SessionView) (result : Result CodeEvent Stop) : Type 0 where
   pub p : Place
   pub q : Place
@@ -149,6 +156,7 @@ pub record HasTurned {T S : Type 0} (op : Operator) (rooms_before rooms_after : 
   pub stands : StandsOn rooms_after after q
   pub found : IsLostIn rooms_before rooms_after before lost
   pub answers : Answers op rooms_before.book before after p q lost result
+  pub moved : HasMoved rooms_before.book before p q lost result rooms_before.moves rooms_after.moves
   pub same_rooms : AreSameRooms rooms_before rooms_after before.worker
   pub same_worker : after.worker ≡ before.worker
 

@@ -1,9 +1,10 @@
 -- How the parts of a turn change rooms.
-use Rattle.std.specs.Prelude.{◌≡◌, ◌⊎◌, ◌<◌, ◌-◌, ◌^◌, ◌==◌, if◌then◌else◌, ℕ, true, false, Option, Some, None, Result, Ok, Err, List, [], ◌∷◌, ◌++◌}
+use Rattle.std.specs.Prelude.{◌≡◌, ◌⊎◌, ◌<◌, ◌-◌, ◌^◌, ◌==◌, if◌then◌else◌, ℕ, Bool, true, false, Option, Some, None, Result, Ok, Err, List, [], ◌∷◌, ◌++◌}
+use Rattle.gx_base.specs.declared.items.Item.{Item}
 use Rattle.gate_core.specs.Views.{GateView, release}
 use Rattle.commit_book.specs.BookViews.{BookView, put_back}
 use Rattle.commit_book.specs.declared.refusals.CommitRefuse.{CommitRefuse}
-use Rattle.commit_book.specs.declared.refusals.CommitRefuse.TheVariants.{NoMemory}
+use Rattle.commit_book.specs.declared.refusals.CommitRefuse.TheVariants.{NotReady, NotLeast, Spent, Kept, NoMemory}
 use Rattle.speculation.specs.Sessions.{has_no_step}
 use Rattle.rooms.specs.HandedOut.{IsHandedOut, IsLost, MayHaveMark, MayHaveCommits}
 use Rattle.rooms.specs.RoomsViews.{RoomsView, is_held, commits_entered, entries_for, told_with, entered, left}
@@ -13,6 +14,11 @@ use Rattle.rooms.specs.declared.values.Value.TheVariants.{Object, Book}
 use Rattle.iterate.specs.Places.{gate_of, IfTold}
 use Rattle.iterate.specs.RoomLists.{is_among, AreRoomsRising, AreRoomsBelow}
 use Rattle.iterate.specs.SessionViews.{Core}
+use Rattle.iterate.specs.TurnMoves.{gates_visited}
+use Rattle.iterate.specs.declared.events.Event.{Event as CodeEvent}
+use Rattle.iterate.specs.declared.events.Event.TheVariants as events
+use Rattle.iterate.specs.declared.events.Stop.{Stop}
+use Rattle.iterate.specs.declared.events.Stop.TheVariants as stops
 use Rattle.iterate.specs.declared.session.Phase.{Phase as CodePhase}
 use Rattle.iterate.specs.declared.session.Phase.TheVariants as code
 
@@ -31,12 +37,12 @@ pub record MayLeaveBook {V : Type 0} (view : RoomsView V) (book : BookView) : Ty
 -- a gate was entered, and left as this one
 pub record WasVisited {T S : Type 0} (before after : RoomsView (Value T S)) (room : ℕ) (was now : GateView) : Type 0 where
   pub handed : IsHandedOut tells before room (Object was)
-  pub visit : after ≡ left tells (entered before room (tells {T = T} {S = S} (Object was))) room (Object now)
+  pub visit : after ≡ left tells (entered tells before room (Object was)) room (Object now)
 
 -- the book was entered, and left as this one
 pub record BookWasVisited {T S : Type 0} (before after : RoomsView (Value T S)) (was now : BookView) : Type 0 where
   pub handed : IsHandedOut tells before before.book (Book was)
-  pub visit : after ≡ left tells (entered before before.book (tells {T = T} {S = S} (Book was))) before.book (Book now)
+  pub visit : after ≡ left tells (entered tells before before.book (Book was)) before.book (Book now)
 
 -- an iteration has given up: it has calls to take back, or else its item is put back, or that is still to be done as the book was held
 pub data GaveUp {T S St : Type 0} (before after : RoomsView (Value T S)) (old new : Core) (phase : CodePhase St) : Type 0 where
@@ -59,6 +65,7 @@ pub record AreReleased {T S : Type 0} (before after : RoomsView (Value T S)) (wo
   pub held : after.held ≡ before.held
   pub released : (room : ℕ) → is_among rooms room ≡ false → after.released room ≡ before.released room
   pub lost : after.lost ≡ before.lost
+  pub moves : after.moves ≡ gates_visited was (λ room. release (was room) worker iter number) rooms before.moves
 
 -- what is asked of rooms in which an iteration is to be released
 pub record MayRelease {V : Type 0} (view : RoomsView V) (number : ℕ) (left : List ℕ) : Type 0 where
@@ -84,3 +91,29 @@ pub record IsReleaseCutShort {T S : Type 0} (before after : RoomsView (Value T S
 abbrev pub MayAnswer : Option CommitRefuse → Result (ℕ × List ℕ) CommitRefuse → Type 0
 MayAnswer why (Ok answer) = why ≡ None
 MayAnswer why (Err refuse) = (why ≡ Some refuse) ⊎ (refuse ≡ NoMemory)
+
+-- ---- a book that refuses a commit
+
+-- what a turn answers then
+abbrev pub answer_to : CommitRefuse → Result CodeEvent Stop
+answer_to NotReady = Ok events.Drop
+answer_to (NotLeast least) = Ok events.Wait
+answer_to Spent = Err stops.Spent
+answer_to Kept = Err stops.Kept
+answer_to NoMemory = Err stops.NoMemory
+
+-- the iteration has to undo, or is over where it has no calls
+abbrev pub gives_up : CommitRefuse → Bool
+gives_up NotReady = true
+gives_up (NotLeast least) = false
+gives_up Spent = true
+gives_up Kept = true
+gives_up NoMemory = true
+
+-- one that stops has no pushes then
+abbrev pub pushes_kept : CommitRefuse → List Item → List Item
+pushes_kept NotReady pushes = pushes
+pushes_kept (NotLeast least) pushes = pushes
+pushes_kept Spent pushes = []
+pushes_kept Kept pushes = []
+pushes_kept NoMemory pushes = []

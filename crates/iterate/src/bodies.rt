@@ -9,6 +9,7 @@ use gx_base::{Act, Call, Item, NoMemory, Reply, Room};
 use std::mem;
 
 /// Asks a body on and keeps its pushes, until it asks a call or is at its end.
+#[inline(always)]
 pub fn advance<O: Operator>(
     op: &O,
     st: &mut O::St,
@@ -33,6 +34,7 @@ pub fn advance<O: Operator>(
 
 impl<O: Operator> Session<O> {
     // The call that the body asks next, or none at its end. The session is then asking that call, or finished.
+    #[inline(always)]
     pub(crate) fn ask_on(&mut self, op: &O) -> Result<Option<(Room, Call)>, NoMemory>
         requires work { IsAtWork self.old.phase }
         requires asked { IsAskedWithin (O.room_count op.now) (asked_of self.old.phase) }

@@ -18,6 +18,7 @@ use std::mem;
 impl<O: Operator> Session<O> {
     /// A running session asks its body on. A call goes to the gate of its room; at the end of the body it goes on as
     /// finished.
+    #[inline(always)]
     pub(crate) fn go<R: Rooms<Value<T, S>>, T: SeqType, S: Screen<T>>(
         &mut self,
         rooms: &mut R,
@@ -37,6 +38,7 @@ impl<O: Operator> Session<O> {
     }
 
     // Asks a call of the gate of its room. The place in the log is reserved before, so that nothing fails after it.
+    #[inline(always)]
     fn call<R: Rooms<Value<T, S>>, T: SeqType, S: Screen<T>>(
         &mut self,
         rooms: &mut R,
@@ -76,6 +78,7 @@ impl<O: Operator> Session<O> {
     }
 
     // A call that was done goes to the log, and the body goes on from its reply.
+    #[inline(always)]
     fn note(&mut self, room: Room, call: Call, reply: Reply)
         requires room { vec_len self.old.log < vec_capacity self.old.log }
         requires asking { HasAsked (Some (room, call)) self.old.phase }

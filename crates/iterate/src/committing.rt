@@ -8,7 +8,7 @@ ghost use Rattle.iterate.specs.Places.{IsFit};
 ghost use Rattle.iterate.specs.RoomLists.{rooms_of};
 ghost use Rattle.iterate.specs.SessionViews.{core_of, view_in, view_of};
 ghost use Rattle.iterate.specs.Turns.{TakesTurn};
-ghost use Rattle.iterate.specs.Visits.{AreReleased, MayRelease, IsReleaseCutShort, MayAnswer};
+ghost use Rattle.iterate.specs.Visits.{AreReleased, MayRelease, IsReleaseCutShort, MayAnswer, answer_to, gives_up, pushes_kept};
 ghost use Rattle.iterate.specs.declared.session.Phase.TheVariants as phases;
 
 use crate::entering::{enter_book, enter_gate, leave_book, leave_gate};
@@ -69,33 +69,41 @@ impl<O: Operator> Session<O> {
                 book.nobody_is_named();
                 match self.commit_in(&mut book) {
                     Ok((number, left)) => Ok(self.release(rooms, op, book, number, left)),
-                    Err(refuse) => match refuse {
-                        CommitRefuse::NotReady => {
-                            self.give_up_in(&mut book);
-                            leave_book(rooms, book);
-                            Ok(Event::Drop)
-                        }
-                        CommitRefuse::NotLeast { .. } => {
-                            leave_book(rooms, book);
-                            Ok(Event::Wait)
-                        }
-                        CommitRefuse::Spent => {
-                            self.stop_in(&mut book);
-                            leave_book(rooms, book);
-                            Err(Stop::Spent)
-                        }
-                        CommitRefuse::Kept => {
-                            self.stop_in(&mut book);
-                            leave_book(rooms, book);
-                            Err(Stop::Kept)
-                        }
-                        CommitRefuse::NoMemory => {
-                            self.stop_in(&mut book);
-                            leave_book(rooms, book);
-                            Err(Stop::NoMemory)
-                        }
-                    },
+                    Err(refuse) => {
+                        let result = self.refused_in(&mut book, refuse);
+                        leave_book(rooms, book);
+                        result
+                    }
                 }
+            }
+        }
+    }
+
+    // What the session does in a book that refuses its commit, and answers.
+    fn refused_in(&mut self, book: &mut Book, refuse: CommitRefuse) -> Result<Event, Stop>
+        ensures answer { result ≡ answer_to refuse }
+        ensures kept { (book.new.ordered ≡ book.old.ordered) × (book.new.commits ≡ book.old.commits) }
+        ensures waits { gives_up refuse ≡ false → (book.new ≡ book.old) × (core_of self.new ≡ core_of self.old) × (self.new.phase ≡ self.old.phase) }
+        ensures calls { gives_up refuse ≡ true → has_no_step self.old.log.items ≡ false → (book.new ≡ book.old) × (core_of self.new ≡ record (core_of self.old) { pushes = pushes_kept refuse self.old.pushes.items }) × (self.new.phase ≡ phases.Undoing) }
+        ensures over { gives_up refuse ≡ true → has_no_step self.old.log.items ≡ true → (book.new ≡ put_back book.old self.old.worker self.old.iter) × (core_of self.new ≡ record (core_of self.old) { log = []; pushes = [] }) × (self.new.phase ≡ phases.Idle) }
+    {
+        match refuse {
+            CommitRefuse::NotReady => {
+                self.give_up_in(book);
+                Ok(Event::Drop)
+            }
+            CommitRefuse::NotLeast { .. } => Ok(Event::Wait),
+            CommitRefuse::Spent => {
+                self.stop_in(book);
+                Err(Stop::Spent)
+            }
+            CommitRefuse::Kept => {
+                self.stop_in(book);
+                Err(Stop::Kept)
+            }
+            CommitRefuse::NoMemory => {
+                self.stop_in(book);
+                Err(Stop::NoMemory)
             }
         }
     }
@@ -165,6 +173,8 @@ impl<O: Operator> Session<O> {
         ensures turn { TakesTurn (operator_of O.Operator _op.now) (R.view rooms.old) (R.view rooms.new) (view_in (O.rest _op.now) (core_of self.old) (phases.Committing book number left)) (view_of (O.rest _op.now) self.new) (Ok result) }
         ensures loan { R.loan rooms.new ≡ R.loan rooms.old }
     {
+        // A book has few enough commits that each number is small. For proofs: it does nothing.
+        let _commits = book.commits();
         if !release_all(rooms, self.worker, self.iter, number, &mut left) {
             self.phase = Phase::Committing { book, number, left };
             return Event::Busy;

@@ -1,6 +1,4 @@
 ghost use Rattle.std.specs.Prelude.{◌≡◌, ◌<◌, true, false, IfSome, IfNone};
-ghost use Rattle.gate_core.specs.Homes as gates;
-ghost use Rattle.commit_book.specs.Homes as books;
 ghost use Rattle.rooms.specs.RoomsViews.{is_held, entered, left};
 ghost use Rattle.rooms.specs.HandedOut.{IsHandedOut, IsLost};
 ghost use Rattle.rooms.specs.Values.{tells};
@@ -13,6 +11,7 @@ use gx_base::{Room, SeqType};
 use rooms::{Rooms, Value};
 
 /// The gate of a room, unless another caller holds the room.
+#[inline(always)]
 pub fn enter_gate<R: Rooms<Value<T, S>>, T: SeqType, S: Screen<T>>(
     rooms: &mut R,
     room: Room,
@@ -20,7 +19,7 @@ pub fn enter_gate<R: Rooms<Value<T, S>>, T: SeqType, S: Screen<T>>(
     requires in_range { room < (R.view rooms.old).book }
     requires free { is_held (R.view rooms.old) room ≡ false }
     ensures gate { IfSome result (λ gate. IsHandedOut tells (R.view rooms.old) room (values.Object gate)) }
-    ensures some { IfSome result (λ gate. R.view rooms.new ≡ entered (R.view rooms.old) room (gates.room_view gate)) }
+    ensures some { IfSome result (λ gate. R.view rooms.new ≡ entered tells (R.view rooms.old) room (values.Object gate)) }
     ensures none { IfNone result (IsLost (R.view rooms.old) (R.view rooms.new) room) }
     ensures loan { R.loan rooms.new ≡ R.loan rooms.old }
 {
@@ -32,6 +31,7 @@ pub fn enter_gate<R: Rooms<Value<T, S>>, T: SeqType, S: Screen<T>>(
 }
 
 /// Puts a gate in its room.
+#[inline(always)]
 pub fn leave_gate<R: Rooms<Value<T, S>>, T: SeqType, S: Screen<T>>(
     rooms: &mut R,
     room: Room,
@@ -51,10 +51,11 @@ fn book_room<R: Rooms<Value<T, S>>, T: SeqType, S: Screen<T>>(rooms: &R) -> Room
 }
 
 /// The book, unless another caller holds its room.
+#[inline(always)]
 pub fn enter_book<R: Rooms<Value<T, S>>, T: SeqType, S: Screen<T>>(rooms: &mut R) -> Option<Book>
     requires free { is_held (R.view rooms.old) (R.view rooms.old).book ≡ false }
     ensures book { IfSome result (λ book. IsHandedOut tells (R.view rooms.old) (R.view rooms.old).book (values.Book book)) }
-    ensures some { IfSome result (λ book. R.view rooms.new ≡ entered (R.view rooms.old) (R.view rooms.old).book (books.room_view book)) }
+    ensures some { IfSome result (λ book. R.view rooms.new ≡ entered tells (R.view rooms.old) (R.view rooms.old).book (values.Book book)) }
     ensures none { IfNone result (IsLost (R.view rooms.old) (R.view rooms.new) (R.view rooms.old).book) }
     ensures loan { R.loan rooms.new ≡ R.loan rooms.old }
 {
@@ -67,6 +68,7 @@ pub fn enter_book<R: Rooms<Value<T, S>>, T: SeqType, S: Screen<T>>(rooms: &mut R
 }
 
 /// Puts the book in its room.
+#[inline(always)]
 pub fn leave_book<R: Rooms<Value<T, S>>, T: SeqType, S: Screen<T>>(rooms: &mut R, book: Book)
     requires { MayLeaveBook (R.view rooms.old) book }
     ensures view { R.view rooms.new ≡ left tells (R.view rooms.old) (R.view rooms.old).book (values.Book book) }

@@ -1,10 +1,10 @@
 //! Sessions: workers that run the bodies of work items at once, over rooms that hold gates and the book.
 //!
 //! `Session::new(alloc, worker)` makes one that is idle. Each `session.turn(&mut rooms, &op)` is one event of the
-//! speculative machine: where the rooms tell their values, on those gates and that book; where they don't, on some gates with
-//! the worker's own entries, and on some book. Where a room that it needs is held by another caller, the turn is `Busy` or is
-//! cut short there. A turn never waits, and one that takes calls back or releases them takes no memory. After a commit
-//! `session.pushed()` has its pushes.
+//! speculative machine, on the gates and the book that it was handed out, and leaves what that event makes of them. Where the
+//! rooms tell their values, all others are those that they tell. Where a room that it needs is held by another caller, the
+//! turn is `Busy` or is cut short there. A turn never waits, and one that takes calls back or releases them takes no memory.
+//! After a commit `session.pushed()` has its pushes.
 //!
 //! `play(alloc, rooms, &op, workers, &schedule)` is a whole run over rooms that one caller enters for all workers: the turns of a
 //! schedule, then the drain, then worker 0 alone. What it answers is the run of the machine that the values were at first
@@ -12,8 +12,8 @@
 //!
 //! Start at `Session::turn` in `src/session.rt`. `specs/Places.antt` says when a session may take a turn (`IsFit`) and which
 //! place of the machine it stands on, `specs/Turns.antt` what a turn does and answers (`HasTurned`), `specs/SharedTurns.antt`
-//! what the machine's turn becomes where a room was held. Each phase has a file: `taking`, `calling`, `committing`,
-//! `undoing`; `entering` is the one that enters and leaves rooms.
+//! what the machine's turn becomes where a room was held, `specs/TurnMoves.antt` which rooms a turn enters and leaves. Each
+//! phase has a file: `taking`, `calling`, `committing`, `undoing`; `entering` is the one that enters and leaves rooms.
 #![tactic(auto)]
 
 mod bodies;

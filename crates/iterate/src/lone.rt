@@ -15,6 +15,7 @@ use gx_base::SeqType;
 use rooms::{Value, VecRooms};
 
 // A turn of worker 0.
+#[inline(always)]
 fn lone_turn<O: Operator, T: SeqType, S: Screen<T>>(
     rooms: &mut VecRooms<Value<T, S>>,
     op: &O,

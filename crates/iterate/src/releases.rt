@@ -1,23 +1,28 @@
-ghost use Rattle.std.specs.Prelude.{◌≡◌, ◌∷◌, [], IfOk, IfSome, IfNone};
-ghost use Rattle.iterate.specs.RoomLists.{rooms_of, rest_of};
+ghost use Rattle.std.specs.Prelude.{◌≡◌, ◌∷◌, [], IfOk, IfSome, IfNone, OnOk};
+ghost use Rattle.std.specs.Ordering.{nat_cmp};
+ghost use Rattle.std.specs.BTreeSet.{insert_key};
+ghost use Rattle.iterate.specs.RoomLists.{rooms_of, rest_of, IsPlaceFor};
 
 use gx_base::{NoMemory, Room, Step};
 use std::alloc::Global;
-use std::collections::BTreeSet;
+use std::cmp::Ordering;
 use std::marker::Model;
 
 /// The rooms in which a commit is still to be released, by rising number.
 #[derive(Drop)]
 pub struct Releases {
-    rooms: BTreeSet<Room>,
+    // Those of the whole commit: few, so that a vector serves.
+    rooms: Vec<Room>,
+    // How many of them are done with.
+    passed: usize,
 }
 
 impl Model for Releases {
-    ghost use Rattle.std.specs.Prelude.{List, ℕ};
+    ghost use Rattle.std.specs.Prelude.{List, ℕ, drop};
 
     ghost Value = { List ℕ };
 
-    ghost view = { λ releases. releases.rooms.keys };
+    ghost view = { λ releases. drop releases.passed releases.rooms.items };
 }
 
 impl Releases {
@@ -25,11 +30,11 @@ impl Releases {
     pub fn of(alloc: Global, log: &[Step]) -> Result<Releases, NoMemory>
         ensures { IfOk result (λ releases. releases ≡ rooms_of log.now) }
     {
-        let mut rooms = BTreeSet::new(alloc);
+        let mut rooms = Vec::new(alloc);
         for place in (0..log.len()).rev() {
-            rooms.insert(log[place].room)?;
+            put_room(&mut rooms, log[place].room)?;
         }
-        Ok(Releases { rooms })
+        Ok(Releases { rooms, passed: 0 })
     }
 
     /// The least of them.
@@ -37,7 +42,7 @@ impl Releases {
         ensures some { IfSome result (λ room. self.now ≡ room ∷ rest_of self.now) }
         ensures none { IfNone result (self.now ≡ []) }
     {
-        match self.rooms.first() {
+        match self.rooms.get(self.passed) {
             Some(room) => Some(*room),
             None => None,
         }
@@ -47,6 +52,32 @@ impl Releases {
     pub fn pass(&mut self)
         ensures { self.new ≡ rest_of self.old }
     {
-        let _ = self.rooms.pop_first();
+        if self.passed < self.rooms.len() {
+            self.passed += 1;
+        }
     }
+}
+
+// Where a room is to stand among others by rising number. None where it is there.
+fn place_for(rooms: &[Room], room: Room) -> Option<usize>
+    ensures { IsPlaceFor rooms.now room result }
+{
+    for place in 0..rooms.len() {
+        match room.cmp(&rooms[place]) {
+            Ordering::Less => return Some(place),
+            Ordering::Equal => return None,
+            Ordering::Greater => {}
+        }
+    }
+    Some(rooms.len())
+}
+
+fn put_room(rooms: &mut Vec<Room>, room: Room) -> Result<(), NoMemory>
+    ensures { OnOk result (rooms.new.items ≡ insert_key nat_cmp rooms.old.items room) }
+{
+    match place_for(rooms.as_slice(), room) {
+        Some(place) => rooms.insert(place, room)?,
+        None => {}
+    }
+    Ok(())
 }

@@ -22,6 +22,7 @@ use gx_base::{Call, SeqType};
 use rooms::{Rooms, Value, VecRooms};
 
 /// Whether no item is ready.
+#[inline(always)]
 pub fn nothing_is_ready<T: SeqType, S: Screen<T>>(rooms: &VecRooms<Value<T, S>>) -> bool
     requires { (room : ℕ) → is_held (rooms_view tells rooms.now) room ≡ false }
     ensures { result ≡ is_empty (book_in ((rooms_view tells rooms.now).told (rooms_view tells rooms.now).book)).ready }
@@ -64,18 +65,19 @@ fn fits(_call: Call)
     ensures { IsCall _call }
 {}
 
-// So have those of the call that an event tells. For proofs: it does nothing.
-fn tells_call(event: &Event)
-    ensures { TellsCall (event_of event.now) }
+// So have those of the call that a turn tells. For proofs: it does nothing.
+fn tells_call(turned: &Result<Event, Stop>)
+    ensures { IfOk turned.now (λ event. TellsCall (event_of event)) }
 {
-    match event {
-        Event::Call { call, .. } => fits(*call),
-        Event::Conflict { told, .. } => fits(told.asked),
+    match turned {
+        Ok(Event::Call { call, .. }) => fits(*call),
+        Ok(Event::Conflict { told, .. }) => fits(told.asked),
         _ => {}
     }
 }
 
 // A turn of one session, and what the rooms tell before and after it.
+#[inline(always)]
 fn turn_told<O: Operator, T: SeqType, S: Screen<T>>(
     rooms: &mut VecRooms<Value<T, S>>,
     op: &O,
@@ -92,16 +94,12 @@ fn turn_told<O: Operator, T: SeqType, S: Screen<T>>(
     rooms.tell();
     let result = session.turn(rooms, op);
     rooms.tell();
-    match result {
-        Ok(event) => {
-            tells_call(&event);
-            Ok(event)
-        }
-        Err(stop) => Err(stop),
-    }
+    tells_call(&result);
+    result
 }
 
 /// One turn of a worker.
+#[inline(always)]
 pub fn take_turn<O: Operator, T: SeqType, S: Screen<T>>(
     rooms: &mut VecRooms<Value<T, S>>,
     op: &O,

@@ -1,8 +1,24 @@
 -- What rooms tell their caller, and what entering and leaving one make of it.
-use Rattle.std.specs.Prelude.{ℕ, ◌+◌, Bool, true, false, ◌&&◌, ◌==◌, if◌then◌else◌, Option, Some, None, List, length, filter, is_some}
+use Rattle.std.specs.Prelude.{ℕ, ◌+◌, Bool, true, false, ◌&&◌, ◌==◌, if◌then◌else◌, Option, Some, None, List, ◌∷◌, length, filter, is_some}
 use Rattle.gx_base.specs.declared.acts.Entry.{Entry}
 use Rattle.gx_base.specs.Replays.{put}
 use Rattle.gx_base.specs.RoomViews.{RoomView}
+
+-- a value was handed out of a room, or was left in it
+pub record Move (V : Type 0) : Type 0 where
+  pub was_left : Bool
+  pub room : ℕ
+  pub value : V
+
+abbrev pub enters : {V : Type 0} → ℕ → V → Move V
+enters room value = record { was_left = false; room = room; value = value }
+
+abbrev pub leaves : {V : Type 0} → ℕ → V → Move V
+leaves room value = record { was_left = true; room = room; value = value }
+
+-- with those of a visit, in which a room was entered with one value and left with another
+abbrev pub visited : {V : Type 0} → ℕ → V → V → List (Move V) → List (Move V)
+visited room was now moves = leaves room now ∷ enters room was ∷ moves
 
 -- The rooms are numbered from 0, and the last one is the book's. Functions from numbers are over rooms, but for `acts_for`,
 -- which is over workers.
@@ -21,6 +37,8 @@ pub record RoomsView (V : Type 0) : Type 0 where
   pub lost : ℕ → ℕ
   -- the rooms' values, where they are told; in a held room, as it was entered
   pub told : ℕ → Option V
+  -- what was handed out to the caller and left by it, the newest first
+  pub moves : List (Move V)
 
 -- ---- what the caller holds
 
@@ -55,11 +73,12 @@ entries_for acts_for es = filter (λ e. acts_for e.worker) es
 abbrev pub nowhere : ℕ → Bool
 nowhere room = false
 
--- the caller holds the room, which tells this. With the book it has released nothing yet
-abbrev pub entered : {V : Type 0} → RoomsView V → ℕ → RoomView → RoomsView V
-entered view room seen = record view {
-  held = put view.held room (Some seen);
+-- the caller holds the room, which had this value. With the book it has released nothing yet
+abbrev pub entered : {V : Type 0} → (V → RoomView) → RoomsView V → ℕ → V → RoomsView V
+entered tells view room value = record view {
+  held = put view.held room (Some (tells value));
   released = if room == view.book then nowhere else view.released;
+  moves = enters room value ∷ view.moves;
 }
 
 -- a gate is left with this mark while the caller holds the book, and it is one more than the book's number of commits
@@ -86,4 +105,5 @@ abbrev pub left : {V : Type 0} → (V → RoomView) → RoomsView V → ℕ → 
 left tells view room value = record (with_value tells view room value) {
   held = put view.held room None;
   released = released_with view room (tells value).mark;
+  moves = leaves room value ∷ view.moves;
 }

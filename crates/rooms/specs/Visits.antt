@@ -4,14 +4,8 @@ use Rattle.std.specs.Option.{option_map}
 use Rattle.std.specs.Coded.{Coded, code_by, coded×, coded_ℕ, coded_bool, coded_list}
 use Rattle.gx_base.specs.declared.acts.Entry.{Entry}
 use Rattle.gx_base.specs.RoomViews.{RoomView, is_book}
-use Rattle.rooms.specs.RoomsViews.{RoomsView, is_held, holds_book, entries_for, nowhere, entered, left}
+use Rattle.rooms.specs.RoomsViews.{Move, RoomsView, is_held, holds_book, entries_for, nowhere, entered, left}
 use Rattle.rooms.specs.HandedOut.{is_ordered, MayStand}
-
--- a value was handed out of a room, or was left in it
-pub record Move (V : Type 0) : Type 0 where
-  pub was_left : Bool
-  pub room : ℕ
-  pub value : V
 
 -- the values at first, and the moves, the newest before the others
 pub record Visits (V : Type 0) : Type 0 where
@@ -42,10 +36,11 @@ first_view tells values = record {
   released = nowhere;
   lost = λ room. 0;
   told = λ room. slice_get values room;
+  moves = [];
 }
 
 abbrev pub after_move : {V : Type 0} → (V → RoomView) → Move V → RoomsView V → RoomsView V
-after_move tells move view = if move.was_left then left tells view move.room move.value else entered view move.room (tells move.value)
+after_move tells move view = if move.was_left then left tells view move.room move.value else entered tells view move.room move.value
 
 abbrev pub after_moves : {V : Type 0} → (V → RoomView) → List (Move V) → RoomsView V → RoomsView V
 after_moves tells [] view = view

@@ -1,5 +1,6 @@
-ghost use Rattle.std.specs.Prelude.{◌≡◌, ◌∷◌, [], true, false};
+ghost use Rattle.std.specs.Prelude.{◌≡◌, ◌∷◌, []};
 ghost use Rattle.rooms.specs.Histories.{visits_of};
+ghost use Rattle.rooms.specs.RoomsViews.{enters, leaves};
 
 use gx_base::Room;
 use std::snapshot::Snapshot;
@@ -20,13 +21,13 @@ impl<V> History<V> {
     }
 
     pub(crate) fn and_entered(&self, room: Room, value: &V) -> History<V>
-        ensures { visits_of result ≡ (let before = visits_of self.now in record before { moves = record { was_left = false; room = room; value = value.now } ∷ before.moves }) }
+        ensures { visits_of result ≡ (let before = visits_of self.now in record before { moves = enters room value.now ∷ before.moves }) }
     {
         History::Entered(room, Snapshot::of(value), Snapshot::of(self))
     }
 
     pub(crate) fn and_left(&self, room: Room, value: &V) -> History<V>
-        ensures { visits_of result ≡ (let before = visits_of self.now in record before { moves = record { was_left = true; room = room; value = value.now } ∷ before.moves }) }
+        ensures { visits_of result ≡ (let before = visits_of self.now in record before { moves = leaves room value.now ∷ before.moves }) }
     {
         History::Left(room, Snapshot::of(value), Snapshot::of(self))
     }

@@ -21,7 +21,7 @@ pub trait Rooms<V: Homed> {
         requires in_range { room ≤ (view self.old).book }
         requires free { is_held (view self.old) room ≡ false }
         ensures value { IfSome result (λ value. IsHandedOut V.told (view self.old) room value) }
-        ensures some { IfSome result (λ value. view self.new ≡ entered (view self.old) room (V.told value)) }
+        ensures some { IfSome result (λ value. view self.new ≡ entered V.told (view self.old) room value) }
         ensures none { IfNone result (IsLost (view self.old) (view self.new) room) }
         ensures loan { loan self.new ≡ loan self.old };
 

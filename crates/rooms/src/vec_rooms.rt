@@ -1,5 +1,5 @@
 ghost use Rattle.std.specs.Prelude.{◌≡◌, ◌<◌, ◌^◌, ℕ, true, false, [], length, map, slice_get, slice_set, Some};
-ghost use Rattle.rooms.specs.RoomsViews.{is_held};
+ghost use Rattle.rooms.specs.RoomsViews.{is_held, enters, leaves};
 ghost use Rattle.rooms.specs.Visits.{AreGatesAndBook, AreTold, view_of};
 
 use crate::history::History;
@@ -74,11 +74,12 @@ impl<V: Vacant> VecRooms<V> {
         self.values
     }
 
+    #[inline(always)]
     fn hand_out(&mut self, room: Room) -> V
         requires in_range { room ≤ (view_of V.told self.old).book }
         requires free { is_held (view_of V.told self.old) room ≡ false }
         ensures value { IsHandedOut V.told (view_of V.told self.old) room result }
-        ensures moved { self.new ≡ record self.old { moves = record { was_left = false; room = room; value = result } ∷ self.old.moves } }
+        ensures moved { self.new ≡ record self.old { moves = enters room result ∷ self.old.moves } }
     {
         let vacant = V::vacant(self.alloc);
         let value = exchange(&mut self.values, room, vacant);
@@ -86,10 +87,11 @@ impl<V: Vacant> VecRooms<V> {
         value
     }
 
+    #[inline(always)]
     fn take_back(&mut self, room: Room, value: V)
         requires held { is_held (view_of V.told self.old) room ≡ true }
         requires value { MayBeLeft (view_of V.told self.old) room (V.told value) }
-        ensures { self.new ≡ record self.old { moves = record { was_left = true; room = room; value = value } ∷ self.old.moves } }
+        ensures { self.new ≡ record self.old { moves = leaves room value ∷ self.old.moves } }
     {
         self.history = self.history.and_left(room, &value);
         put_at(&mut self.values, room, value);
@@ -97,6 +99,7 @@ impl<V: Vacant> VecRooms<V> {
 }
 
 // The value at a place, where another one stands then.
+#[inline(always)]
 fn exchange<V: Drop>(values: &mut Vec<V>, room: Room, value: V) -> V
     requires { room < length values.old.items }
     ensures value { slice_get values.old.items room ≡ Some result }
@@ -105,6 +108,7 @@ fn exchange<V: Drop>(values: &mut Vec<V>, room: Room, value: V) -> V
     mem::replace(&mut values[room as usize], value)
 }
 
+#[inline(always)]
 fn put_at<V: Drop>(values: &mut Vec<V>, room: Room, value: V)
     requires { room < length values.old.items }
     ensures { values.new.items ≡ slice_set values.old.items room value }
@@ -123,10 +127,12 @@ impl<V: Vacant> Rooms<V> for VecRooms<V> {
         (self.values.len() - 1) as u32
     }
 
+    #[inline(always)]
     fn try_enter(&mut self, room: Room) -> Option<V> {
         Some(self.hand_out(room))
     }
 
+    #[inline(always)]
     fn leave(&mut self, room: Room, value: V) {
         self.take_back(room, value);
     }

@@ -47,11 +47,11 @@ module _ {T S : Type 0} where
   last_at (value ∷ values) last zero e = absurd (omega arith)
   last_at (value ∷ values) last (suc room) e = last_at values last room (omega arith)
 
-  module _ (values : List (Value T S)) (ready : List Item) (new : AreNewGates values) (count : length values ≡ 16) where
+  module _ (values : List (Value T S)) (ready : List Item) (new : AreNewGates values) (few : length values + 1 < 2 ^ 32) where
     abbrev all : List (Value T S)
     all = values ++ Book (new_book false ready) ∷ []
 
-    new_for : (op : Operator) → op.rooms ≡ 16 → op.ordered ≡ false → AreNewFor op (λ room. slice_get all room)
+    new_for : (op : Operator) → op.rooms ≡ length values → op.ordered ≡ false → AreNewFor op (λ room. slice_get all room)
     new_for op rooms ordered = record {
       gates = λ room below. gate_at values (Book (new_book false ready) ∷ []) room new (omega arith);
       book = record { book = new_book false ready; is_there = last_at values (Book (new_book false ready)) op.rooms (omega arith); ordered = sym ordered; no_holds = refl; no_commits = refl };
@@ -59,14 +59,14 @@ module _ {T S : Type 0} where
       few = omega arith;
     }
 
-    pub new_rooms_begin : AreNewRooms (view_of tells (record { values = all; moves = [] }))
+    pub new_rooms_begin : AreNewRooms (length values) (view_of tells (record { values = all; moves = [] }))
     new_rooms_begin = record { free = λ room. refl; new = λ op rooms ordered. new_for op rooms ordered }
 
-pub new_rooms_begin_as : {T S : Type 0} (values items : List (Value T S)) (ready : List Item) (book : BookView) (visits : Visits (Value T S)) → AreNewGates values → length values ≡ 16 → book ≡ new_book false ready → items ≡ values ++ Book book ∷ [] → visits ≡ record { values = items; moves = [] } → AreNewRooms (view_of tells visits)
-new_rooms_begin_as {T} {S} values items ready book visits new count is pushed made =
-    subst (λ v. AreNewRooms (view_of tells v)) (sym made)
-    (subst (λ (vs : List (Value T S)). let v : Visits (Value T S) = record { values = vs; moves = [] } in AreNewRooms (view_of tells v)) (sym (pushed ∙ ap (λ b. values ++ Book b ∷ []) is))
-    (new_rooms_begin values ready new count))
+pub new_rooms_begin_as : {T S : Type 0} (values items : List (Value T S)) (ready : List Item) (book : BookView) (visits : Visits (Value T S)) → AreNewGates values → length values + 1 < 2 ^ 32 → book ≡ new_book false ready → items ≡ values ++ Book book ∷ [] → visits ≡ record { values = items; moves = [] } → AreNewRooms (length values) (view_of tells visits)
+new_rooms_begin_as {T} {S} values items ready book visits new few is pushed made =
+    subst (λ v. AreNewRooms (length values) (view_of tells v)) (sym made)
+    (subst (λ (vs : List (Value T S)). let v : Visits (Value T S) = record { values = vs; moves = [] } in AreNewRooms (length values) (view_of tells v)) (sym (pushed ∙ ap (λ b. values ++ Book b ∷ []) is))
+    (new_rooms_begin values ready new few))
 
 pub gates_and_book_as : {T S : Type 0} (values items : List (Value T S)) (book : BookView) → AreNewGates values → items ≡ values ++ Book book ∷ [] → AreGatesAndBook (map tells items)
 gates_and_book_as values items book new pushed = subst (λ vs. AreGatesAndBook (map tells vs)) (sym pushed) (gates_and_book values book new)

@@ -32,7 +32,7 @@ AreNewGates [] = ⊤
 AreNewGates (Object gate ∷ values) = HasNoEntries gate × AreNewGates values
 AreNewGates (Book book ∷ values) = ⊥
 
--- a run of an operator with sixteen rooms may begin in these
-pub record AreNewRooms {T S : Type 0} (rooms : RoomsView (Value T S)) : Type 0 where
+-- a run of an operator with so many rooms may begin in these
+pub record AreNewRooms {T S : Type 0} (count : ℕ) (rooms : RoomsView (Value T S)) : Type 0 where
   pub free : (room : ℕ) → is_held rooms room ≡ false
-  pub new : (op : Operator) → op.rooms ≡ 16 → op.ordered ≡ false → AreNewFor op rooms.told
+  pub new : (op : Operator) → op.rooms ≡ count → op.ordered ≡ false → AreNewFor op rooms.told

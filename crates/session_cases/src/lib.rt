@@ -16,6 +16,8 @@ mod plain_rooms;
 #[cfg(test)]
 mod scheduled_cases;
 mod scripts;
+#[cfg(test)]
+mod spent_cases;
 
 pub use lossy_rooms::LossyRooms;
 pub use scripts::{Place, Scripts};

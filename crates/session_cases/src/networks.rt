@@ -1,6 +1,6 @@
 //! Networks, what they begin with, and rooms of gates over them.
 
-ghost use Rattle.std.specs.Prelude.{◌≡◌, ◌<◌, length, IfOk, OnOk};
+ghost use Rattle.std.specs.Prelude.{◌≡◌, ◌<◌, ◌+◌, ◌^◌, length, IfOk, OnOk};
 ghost use Rattle.rooms.specs.Values.{tells};
 ghost use Rattle.rooms.specs.Visits.{view_of};
 ghost use Rattle.speculation.specs.ScheduledRuns.{AllBelow};
@@ -10,7 +10,7 @@ use crate::plain_rooms::PlainRoom;
 use commit_book::Book;
 use flow_graph::{EXCESS, FLOW, FlowShard, HEIGHT};
 use gate_core::laws::shipped_tables_serve_gates;
-use gate_core::{Gate, ScanScreen};
+use gate_core::{Gate, ScanScreen, Screen};
 use gx_base::{Choice, Item, Kind, NoMemory, SeqType};
 use preflow_push::{Arc, Network, start};
 use rooms::{Value, VecRooms};
@@ -156,11 +156,25 @@ pub fn new_rooms(
     alloc: Global,
     net: &Network,
 ) -> Result<VecRooms<Value<FlowShard, ScanScreen>>, NoMemory>
-    ensures { IfOk result (λ rooms. AreNewRooms (view_of tells rooms)) }
+    ensures { IfOk result (λ rooms. AreNewRooms 16 (view_of tells rooms)) }
 {
     let (shards, ready) = start(alloc, net)?;
-    let mut values = flow_gates(alloc, shards)?;
-    let book = Book::new(alloc, false, &ready)?;
+    let gates = flow_gates(alloc, shards)?;
+    with_book(alloc, gates, &ready)
+}
+
+/// Gates, and then a book in which these items are ready.
+pub fn with_book<T: SeqType, S: Screen<T>>(
+    alloc: Global,
+    gates: Vec<Value<T, S>>,
+    ready: &[Item],
+) -> Result<VecRooms<Value<T, S>>, NoMemory>
+    requires new { AreNewGates gates.items }
+    requires few { length gates.items + 1 < 2 ^ 32 }
+    ensures { IfOk result (λ rooms. AreNewRooms (length gates.items) (view_of tells rooms)) }
+{
+    let mut values = gates;
+    let book = Book::new(alloc, false, ready)?;
     values.push(Value::Book(book))?;
     Ok(VecRooms::new(alloc, values))
 }

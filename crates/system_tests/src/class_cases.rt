@@ -6,7 +6,7 @@ ghost use Rattle.gx_base.specs.TableRows.{RowMap, row_of};
 ghost use Rattle.gx_base.specs.Tables.{IsValid};
 ghost use Rattle.cond_syntax.specs.TableTexts.{IsTableText};
 
-use crate::run_cases::{NONE, Trouble, run_words};
+use crate::run_cases::{NONE, Trouble, ends_so, run_words};
 use cond_lattice::{NotBelow, below};
 use cond_text::{TextFault, read_table};
 use flow_graph::FlowShard;
@@ -184,8 +184,7 @@ add add : (((((((((((((((((((((((((((((((((((((((((((((((((((((((((((((((((true)
 
 /// Whether `classify` on this text ends well and writes this report.
 fn classifies(alloc: Global, text: &str, report: &str) -> Result<bool, Fail> {
-    let run = run_words(alloc, &["classify", "net"], text, NONE)?;
-    Ok(run.status == Status::Ok && run.written.as_slice() == report.as_bytes())
+    ends_so(alloc, &["classify", "net"], text, NONE, Status::Ok, report)
 }
 
 /// Whether `classify` on this text ends well, and its report with these lines.
@@ -237,8 +236,8 @@ fn classify_domains(rt: HostRuntime) -> Result<(), Fail> {
 
 /// Whether `classify` on this text tells this line, and writes nothing.
 fn is_faulty_at(alloc: Global, text: &str, line: u64) -> Result<bool, Fail> {
-    let run = run_words(alloc, &["classify", "net"], text, NONE)?;
-    Ok(run.status == Status::BadInput { line } && run.written.is_empty())
+    let words = ["classify", "net"];
+    ends_so(alloc, &words, text, NONE, Status::BadInput { line }, "")
 }
 
 /// Whether the first fault of this text is this one, and `classify` tells its line and writes nothing.
@@ -285,21 +284,27 @@ fn condition_faults(rt: HostRuntime) -> Result<(), Fail> {
 #[test]
 fn classify_reads_and_writes_by_pieces(rt: HostRuntime) -> Result<(), Fail> {
     let alloc = rt.alloc();
+    let words = ["classify", "net"];
     let unread = Trouble {
         reads: &[1],
         ..NONE
     };
-    let run = run_words(alloc, &["classify", "net"], APART_SET, unread)?;
-    assert!(rt; run.status == Status::ReadFault);
-    assert!(rt; run.written.is_empty());
+    assert!(rt; ends_so(alloc, &words, APART_SET, unread, Status::ReadFault, "")?);
     let third = Trouble {
         writes: &[2],
         most: 4,
         ..NONE
     };
-    let run = run_words(alloc, &["classify", "net"], APART_SET, third)?;
-    assert!(rt; run.status == Status::WriteFault);
-    assert!(rt; run.written.as_slice() == b"row add ".as_slice());
+    assert!(rt;
+        ends_so(
+            alloc,
+            &words,
+            APART_SET,
+            third,
+            Status::WriteFault,
+            "row add "
+        )?
+    );
     Ok(())
 }
 

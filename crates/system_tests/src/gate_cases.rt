@@ -93,26 +93,32 @@ fn gate_excess_gain(rt: HostRuntime) -> Result<(), Fail> {
     Ok(())
 }
 
+/// Whether so many entries are uncommitted and so many committed, and node 3 has this excess.
+fn stands_so(gate: &Gate<FlowShard, ScanScreen>, live: usize, done: usize, excess: i64) -> bool {
+    gate.live().len() == live && gate.done().len() == done && gate.object().excess(3) == excess
+}
+
+/// Whether all committed entries are those of worker 1, and the first commit's.
+fn are_of_the_first(gate: &Gate<FlowShard, ScanScreen>) -> bool {
+    gate.mark() == 1
+        && gate
+            .done()
+            .iter()
+            .all(|entry| entry.done == Some(0) && entry.worker == 1)
+}
+
 #[test]
 fn gate_gain_undo(rt: HostRuntime) -> Result<(), Fail> {
     let mut gate = precise_gate(rt.alloc())?;
-    assert!(rt; replies(&mut gate, 0, 0, Call::new(GAIN, 3, 5, 0, 0), 0));
+    let five = Call::new(GAIN, 3, 5, 0, 0);
+    assert!(rt; replies(&mut gate, 0, 0, five, 0));
     assert!(rt; replies(&mut gate, 1, 0, Call::new(GAIN, 3, 7, 0, 0), 0));
-    assert_eq!(rt; gate.object().excess(3), 12);
-    assert!(rt; undoes(&mut gate, 0, Call::new(GAIN, 3, 5, 0, 0), 0));
-    assert_eq!(rt; gate.object().excess(3), 7);
-    assert_eq!(rt; gate.live().len(), 1);
+    assert!(rt; stands_so(&gate, 2, 0, 12));
+    assert!(rt; undoes(&mut gate, 0, five, 0));
+    assert!(rt; stands_so(&gate, 1, 0, 7));
     assert!(rt; gate.undo_last(0, 0).is_none());
     assert!(rt; release_as_first(&mut gate, 1));
-    assert_eq!(rt; gate.done().len(), 1);
-    assert_eq!(rt; gate.live().len(), 0);
-    assert_eq!(rt; gate.mark(), 1);
-    assert!(rt;
-        gate.done()
-            .iter()
-            .all(|entry| entry.done == Some(0) && entry.worker == 1)
-    );
-    assert_eq!(rt; gate.object().excess(3), 7);
+    assert!(rt; stands_so(&gate, 0, 1, 7) && are_of_the_first(&gate));
     Ok(())
 }
 

@@ -80,20 +80,65 @@ pub(crate) fn run_words(
     })
 }
 
-/// Whether `flow` on this text ends well and writes this report.
-fn reports(alloc: Global, text: &str, report: &str) -> Result<bool, Fail> {
-    let run = run_words(alloc, &["flow", "net"], text, NONE)?;
-    Ok(run.status == Status::Ok && run.written.as_slice() == report.as_bytes())
+/// Whether a run on these words ends so, and has written this.
+pub(crate) fn ends_so(
+    alloc: Global,
+    words: &[&str],
+    text: &str,
+    trouble: Trouble,
+    status: Status,
+    written: &str,
+) -> Result<bool, Fail>
+    requires { 1 ≤ trouble.most }
+{
+    let run = run_words(alloc, words, text, trouble)?;
+    Ok(run.status == status && run.written.as_slice() == written.as_bytes())
 }
 
-#[test]
-fn four_node_network(rt: HostRuntime) -> Result<(), Fail> {
-    assert!(rt; reports(rt.alloc(), FOUR_NODES, FOUR_NODES_REPORT)?);
-    Ok(())
+/// Whether `flow` on the four nodes ends so where this fails, and has written this.
+fn four_nodes_end_so(
+    alloc: Global,
+    trouble: Trouble,
+    status: Status,
+    written: &str,
+) -> Result<bool, Fail>
+    requires { 1 ≤ trouble.most }
+{
+    ends_so(
+        alloc,
+        &["flow", "net"],
+        FOUR_NODES,
+        trouble,
+        status,
+        written,
+    )
 }
 
-/// Networks, each with its report.
-const NETWORKS: [(&str, &str); 4] = [
+/// Networks, each with the report of one worker, and with the value of the greatest flow.
+pub(crate) const NETWORKS: [(&str, &str, i64); 6] = [
+    (FOUR_NODES, FOUR_NODES_REPORT, 5),
+    // two ways of one unit each
+    (
+        "p max 4 4
+n 1 s
+n 4 t
+a 1 2 1
+a 1 3 1
+a 2 4 1
+a 3 4 1
+",
+        "c i 2
+c i 2
+c i 3
+c i 3
+s 2
+f 1 2 1
+f 1 3 1
+f 2 4 1
+f 3 4 1
+",
+        2,
+    ),
     // no way to the sink
     (
         "p max 3 1
@@ -106,6 +151,7 @@ c i 2
 s 0
 f 1 2 0
 ",
+        0,
     ),
     (
         "p max 2 0
@@ -114,6 +160,7 @@ n 2 t
 ",
         "s 0
 ",
+        0,
     ),
     // parallel arcs
     (
@@ -131,6 +178,7 @@ f 1 2 4
 f 2 1 0
 f 1 2 0
 ",
+        7,
     ),
     // large capacities
     (
@@ -150,13 +198,17 @@ f 1 2 1000000000
 f 2 3 1000000000
 f 2 3 1000000000
 ",
+        2_000_000_000,
     ),
 ];
 
 #[test]
 fn small_networks_have_their_reports(rt: HostRuntime) -> Result<(), Fail> {
-    for (text, report) in NETWORKS {
-        assert!(rt; reports(rt.alloc(), text, report)?, "{text}");
+    for (text, report, _) in NETWORKS {
+        assert!(rt;
+            ends_so(rt.alloc(), &["flow", "net"], text, NONE, Status::Ok, report)?,
+            "{text}"
+        );
     }
     Ok(())
 }
@@ -168,12 +220,9 @@ fn failing_read(rt: HostRuntime) -> Result<(), Fail> {
         reads: &[1],
         ..NONE
     };
-    let run = run_words(alloc, &["flow", "net"], FOUR_NODES, failing)?;
-    assert!(rt; run.status == Status::ReadFault);
-    assert!(rt; run.written.is_empty());
-    let absent = run_words(alloc, &["flow", "absent"], FOUR_NODES, NONE)?;
-    assert!(rt; absent.status == Status::ReadFault);
-    assert!(rt; absent.written.is_empty());
+    assert!(rt; four_nodes_end_so(alloc, failing, Status::ReadFault, "")?);
+    let absent = ["flow", "absent"];
+    assert!(rt; ends_so(alloc, &absent, FOUR_NODES, NONE, Status::ReadFault, "")?);
     Ok(())
 }
 
@@ -185,13 +234,9 @@ fn short_writes(rt: HostRuntime) -> Result<(), Fail> {
         most: 5,
         ..NONE
     };
-    let run = run_words(alloc, &["flow", "net"], FOUR_NODES, third)?;
-    assert!(rt; run.status == Status::WriteFault);
-    assert!(rt; run.written.as_slice() == b"c i 2\nc i ".as_slice());
+    assert!(rt; four_nodes_end_so(alloc, third, Status::WriteFault, "c i 2\nc i ")?);
     let none = Trouble { most: 5, ..NONE };
-    let whole = run_words(alloc, &["flow", "net"], FOUR_NODES, none)?;
-    assert!(rt; whole.status == Status::Ok);
-    assert!(rt; whole.written.as_slice() == FOUR_NODES_REPORT.as_bytes());
+    assert!(rt; four_nodes_end_so(alloc, none, Status::Ok, FOUR_NODES_REPORT)?);
     Ok(())
 }
 
@@ -215,19 +260,18 @@ fn usage_words(rt: HostRuntime) -> Result<(), Fail> {
         &["--Help"],
     ];
     for words in wrong {
-        let run = run_words(alloc, words, FOUR_NODES, NONE)?;
-        assert!(rt; run.status == Status::Usage);
-        assert!(rt; run.written.is_empty());
+        assert!(rt; ends_so(alloc, words, FOUR_NODES, NONE, Status::Usage, "")?);
     }
-    let dash = run_words(alloc, &["flow", "-net"], FOUR_NODES, NONE)?;
-    assert!(rt; dash.status == Status::ReadFault);
+    let dash = ["flow", "-net"];
+    assert!(rt; ends_so(alloc, &dash, FOUR_NODES, NONE, Status::ReadFault, "")?);
     Ok(())
 }
 
 /// Whether this word alone ends well, reads nothing, and writes a text that begins and ends like this.
 fn tells_of_itself(alloc: Global, word: &str, first: &str, last: &str) -> Result<bool, Fail> {
+    // neither starting a file nor reading one would do
     let failing = Trouble {
-        reads: &[1],
+        reads: &[0, 1],
         ..NONE
     };
     let run = run_words(alloc, &[word], FOUR_NODES, failing)?;
@@ -256,29 +300,24 @@ fn help_and_version(rt: HostRuntime) -> Result<(), Fail> {
     Ok(())
 }
 
-/// How a run of `flow` on this text ended, where it wrote nothing.
-fn refusal(alloc: Global, text: &str) -> Result<Status, Fail> {
-    let run = run_words(alloc, &["flow", "net"], text, NONE)?;
-    if !run.written.is_empty() {
-        return Err("something was written".into());
+#[test]
+fn refused_networks(rt: HostRuntime) -> Result<(), Fail> {
+    for (text, status) in [
+        (
+            "p max 2 1\nn 1 s\nn 2 t\na 0 2 5\n",
+            Status::BadInput { line: 4 },
+        ),
+        (
+            "p max 2 2\nn 1 s\nn 2 t\na 1 2 5\n",
+            Status::BadInput { line: 5 },
+        ),
+        (
+            "p max 100001 0\nn 1 s\nn 2 t\n",
+            Status::TooLarge { what: What::Nodes },
+        ),
+    ] {
+        assert!(rt; ends_so(rt.alloc(), &["flow", "net"], text, NONE, status, "")?);
     }
-    Ok(run.status)
-}
-
-#[test]
-fn faulty_flow_lines(rt: HostRuntime) -> Result<(), Fail> {
-    let alloc = rt.alloc();
-    let node = refusal(alloc, "p max 2 1\nn 1 s\nn 2 t\na 0 2 5\n")?;
-    assert!(rt; node == Status::BadInput { line: 4 });
-    let missing = refusal(alloc, "p max 2 2\nn 1 s\nn 2 t\na 1 2 5\n")?;
-    assert!(rt; missing == Status::BadInput { line: 5 });
-    Ok(())
-}
-
-#[test]
-fn too_large(rt: HostRuntime) -> Result<(), Fail> {
-    let nodes = refusal(rt.alloc(), "p max 100001 0\nn 1 s\nn 2 t\n")?;
-    assert!(rt; nodes == Status::TooLarge { what: What::Nodes });
     Ok(())
 }
 
@@ -291,29 +330,21 @@ fn tells(alloc: Global, status: Status, line: &str) -> Result<bool, Fail> {
 
 #[test]
 fn status_lines(rt: HostRuntime) -> Result<(), Fail> {
-    let alloc = rt.alloc();
-    assert!(rt; tells(alloc, Status::Ok, "")?);
-    assert!(rt;
-        tells(
-            alloc,
+    for (status, line) in [
+        (Status::Ok, ""),
+        (
             Status::Usage,
-            "galois: usage: galois COMMAND WORDS [--name value]..."
-        )?
-    );
-    assert!(rt;
-        tells(
-            alloc,
-            Status::BadInput { line: 12 },
-            "galois: line 12: bad input"
-        )?
-    );
-    assert!(rt;
-        tells(
-            alloc,
+            "galois: usage: galois COMMAND WORDS [--name value]...",
+        ),
+        (Status::BadInput { line: 12 }, "galois: line 12: bad input"),
+        (
             Status::TooLarge { what: What::File },
-            "galois: too large: file"
-        )?
-    );
-    assert!(rt; tells(alloc, Status::Spent, "galois: spent")?);
+            "galois: too large: file",
+        ),
+        (Status::Spent, "galois: spent"),
+        (Status::Kept, "galois: kept"),
+    ] {
+        assert!(rt; tells(rt.alloc(), status, line)?);
+    }
     Ok(())
 }

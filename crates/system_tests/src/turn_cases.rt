@@ -2,7 +2,7 @@
 
 ghost use Rattle.std.specs.Prelude.{◌≤◌, ◌+◌};
 
-use crate::run_cases::{NONE, run_words};
+use crate::run_cases::{NETWORKS, NONE, ends_so, run_words};
 use commit_book::{BodyLog, Commit, Worklist, commit_item};
 use galois_run::Status;
 use gx_base::Item;
@@ -93,10 +93,9 @@ t 8 1 undo 3 height 3 0 0 0
 t 9 1 undo 3 excess 3 0 0 0
 ";
 
-/// Whether `flow` on the diamond, with these words more, ends well and writes this.
+/// Whether these words on the diamond end well and write this.
 fn writes(alloc: Global, words: &[&str], wanted: &str) -> Result<bool, Fail> {
-    let run = run_words(alloc, words, DIAMOND, NONE)?;
-    Ok(run.status == Status::Ok && run.written.as_slice() == wanted.as_bytes())
+    ends_so(alloc, words, DIAMOND, NONE, Status::Ok, wanted)
 }
 
 #[test]
@@ -151,8 +150,7 @@ const REFUSED: [&[&str]; 13] = [
 #[test]
 fn words_that_are_no_options(rt: HostRuntime) -> Result<(), Fail> {
     for words in REFUSED {
-        let run = run_words(rt.alloc(), words, DIAMOND, NONE)?;
-        assert!(rt; run.status == Status::Usage && run.written.is_empty());
+        assert!(rt; ends_so(rt.alloc(), words, DIAMOND, NONE, Status::Usage, "")?);
     }
     Ok(())
 }
@@ -176,16 +174,17 @@ fn all_options_at_their_ends(rt: HostRuntime) -> Result<(), Fail> {
     Ok(())
 }
 
-/// A network with two arcs out of each node but the last, which is the sink, drawn from a seed.
-fn drawn_network(alloc: Global, seed: u64, nodes: u64) -> Result<String, Fail>
+/// A network with so many arcs out of each node but the last, which is the sink, drawn from a seed.
+fn drawn_network(alloc: Global, seed: u64, nodes: u64, degree: u64) -> Result<String, Fail>
     requires least { 2 ≤ nodes }
     requires most { nodes ≤ 64 }
+    requires degree { degree ≤ 64 }
 {
-    let arcs = 2 * (nodes - 1);
+    let arcs = degree.saturating_mul(nodes - 1);
     let mut text = format!(in alloc; "p max {nodes} {arcs}\nn 1 s\nn {nodes} t\n")?;
     for node in 1..nodes {
-        for turn in 0..2u64 {
-            let k = 4 * node + 2 * turn;
+        for turn in 0..degree {
+            let k = 128 * node + 2 * turn;
             let drawn = 1 + draw(seed, k) % nodes;
             let other = if drawn == node { node + 1 } else { drawn };
             let cap = draw(seed, k + 1) % 7;
@@ -196,27 +195,51 @@ fn drawn_network(alloc: Global, seed: u64, nodes: u64) -> Result<String, Fail>
     Ok(text)
 }
 
-/// The commits whose lines stand in front of a report, of which only the items are told.
-fn printed_order(alloc: Global, written: &[u8]) -> Result<Vec<Commit>, Fail> {
+/// What stands in front of a report: the commits, of which only the items are told, and then the value.
+#[derive(Drop)]
+struct Printed {
+    order: Vec<Commit>,
+    value: i64,
+}
+
+fn printed(alloc: Global, written: &[u8]) -> Result<Printed, Fail> {
     let mut order = Vec::new(alloc);
     let mut rest = written;
     while !rest.is_empty() {
         let (line, more) = first_line(rest);
         rest = more;
-        let Some(digits) = line.strip_prefix(b"c i ".as_slice()) else {
-            return Ok(order);
-        };
-        let Some(node) = number(digits) else {
-            return Err("no number".into());
-        };
-        order.push(Commit {
-            worker: 0,
-            iter: 0,
-            item: Item::new(node as i64, 0, 0, 0),
-            steps: 0,
-        })?;
+        match line.strip_prefix(b"c i ".as_slice()) {
+            Some(digits) => order.push(commit_of(printed_number(digits)?))?,
+            None => return Ok(Printed {
+                order,
+                value: printed_value(line)?,
+            }),
+        }
     }
-    Ok(order)
+    Err("no value".into())
+}
+
+fn printed_number(digits: &[u8]) -> Result<i64, Fail> {
+    match number(digits) {
+        Some(value) => Ok(value as i64),
+        None => Err("no number".into()),
+    }
+}
+
+fn printed_value(line: &[u8]) -> Result<i64, Fail> {
+    match line.strip_prefix(b"s ".as_slice()) {
+        Some(digits) => printed_number(digits),
+        None => Err("no value".into()),
+    }
+}
+
+fn commit_of(node: i64) -> Commit {
+    Commit {
+        worker: 0,
+        iter: 0,
+        item: Item::new(node, 0, 0, 0),
+        steps: 0,
+    }
 }
 
 /// Whether bodies run one at a time on plain shards in this order, each on a ready node and until none is ready, leave
@@ -243,22 +266,29 @@ fn gives(alloc: Global, net: &Network, order: &[Commit], wanted: &[u8]) -> Resul
     Ok(worklist.is_empty() && text.as_slice() == wanted)
 }
 
-/// Whether the order that a run on this network prints gives, to the reference runner, what the run printed.
-fn is_serial(alloc: Global, text: &str, words: &[&str]) -> Result<bool, Fail> {
+/// The value that a run of this network by a schedule prints, where the order that it prints gives, to the reference
+/// runner, what the run printed.
+fn serial_value(alloc: Global, text: &str, words: &[&str]) -> Result<Option<i64>, Fail> {
     let run = run_words(alloc, words, text, NONE)?;
     let Ok(net) = read_max(alloc, text.as_bytes()) else {
         return Err("no network".into());
     };
-    let order = printed_order(alloc, &run.written)?;
-    Ok(run.status == Status::Ok && gives(alloc, &net, &order, &run.written)?)
+    let front = printed(alloc, &run.written)?;
+    if run.status == Status::Ok && gives(alloc, &net, &front.order, &run.written)? {
+        Ok(Some(front.value))
+    } else {
+        Ok(None)
+    }
 }
 
-/// Whether runs of a drawn network by these schedules are serial.
-fn are_serial(alloc: Global, seed: u64, nodes: u64, workers: u64, turns: u64) -> Result<bool, Fail>
-    requires least { 2 ≤ nodes }
-    requires most { nodes ≤ 64 }
-{
-    let text = drawn_network(alloc, seed, nodes)?;
+/// The same, of a run by so many workers and turns.
+fn scheduled_value(
+    alloc: Global,
+    text: &str,
+    seed: u64,
+    workers: u64,
+    turns: u64,
+) -> Result<Option<i64>, Fail> {
     let workers = format!(in alloc; "{workers}")?;
     let turns = format!(in alloc; "{turns}")?;
     let seed = format!(in alloc; "{seed}")?;
@@ -272,16 +302,27 @@ fn are_serial(alloc: Global, seed: u64, nodes: u64, workers: u64, turns: u64) ->
         "--seed",
         seed.as_str(),
     ];
-    is_serial(alloc, text.as_str(), &words)
+    serial_value(alloc, text, &words)
 }
 
 #[test]
 fn printed_orders_are_serial(rt: HostRuntime) -> Result<(), Fail> {
-    for seed in 0..120u64 {
-        let nodes = 3 + seed % 9;
-        let workers = 1 + seed % 7;
-        let turns = 13 * (seed % 50);
-        assert!(rt; are_serial(rt.alloc(), seed, nodes, workers, turns)?);
+    for seed in 0..315u64 {
+        let text = drawn_network(rt.alloc(), seed, 3 + seed % 9, 2 + seed % 5)?;
+        let alone = scheduled_value(rt.alloc(), text.as_str(), seed, 1, 0)?;
+        let value = scheduled_value(rt.alloc(), text.as_str(), seed, 2 + seed % 7, 9 * seed)?;
+        assert!(rt; value.is_some() && value == alone);
+    }
+    Ok(())
+}
+
+#[test]
+fn orders_of_worked_networks_are_serial(rt: HostRuntime) -> Result<(), Fail> {
+    for seed in 0..70u64 {
+        for (text, _, wanted) in NETWORKS {
+            let value = scheduled_value(rt.alloc(), text, seed, 2 + seed % 7, 2 * seed)?;
+            assert!(rt; value == Some(wanted), "{text}");
+        }
     }
     Ok(())
 }

@@ -9,7 +9,7 @@ use Rattle.table_choice.specs.declared.screens.AnyScreen.TheVariants.{Lock, Forw
 
 -- the tables that the screen suits are those that the one in it suits
 abbrev pub Suits : AnyScreen → ℕ → RowMap → Type 0
-Suits (Lock locks) kind table = Serves locks kind table
+Suits (Lock locks) kind table = Serves locks.value kind table
 Suits (Forward screen) kind table = table_grade kind (row_of table) ≢ General
 
 -- locks for a table of simple rows, and what the log remembers for any other

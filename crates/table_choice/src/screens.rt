@@ -15,8 +15,8 @@ use std::alloc::Global;
 /// A screen of the sort that its table's class calls for.
 #[derive(Debug, Drop)]
 pub enum AnyScreen {
-    /// By lock modes, for tables of simple rows.
-    Lock(LockScreen),
+    /// By lock modes, for tables of simple rows. Behind a pointer, since a screen is moved with the gate that it serves.
+    Lock(Box<LockScreen>),
     /// By what the log remembers.
     Forward(ForwardScreen),
 }
@@ -31,7 +31,7 @@ pub fn screen_for(alloc: Global, kind: Kind, table: &Table) -> Result<AnyScreen,
         return Ok(AnyScreen::Forward(ForwardScreen::new()));
     }
     match LockScreen::new(alloc, kind, table) {
-        Ok(locks) => Ok(AnyScreen::Lock(locks)),
+        Ok(locks) => Ok(AnyScreen::Lock(Box::new(alloc, locks)?)),
         Err(CompileRefuse::NoMemory) => Err(NoMemory),
         Err(CompileRefuse::NotSimple { .. }) => unreachable!(),
     }
@@ -48,14 +48,14 @@ impl<T: SeqType> Screen<T> for AnyScreen {
 
     fn fits(&self, kind: Kind, table: &Table) -> bool {
         match self {
-            AnyScreen::Lock(locks) => <LockScreen as Screen<T>>::fits(locks, kind, table),
+            AnyScreen::Lock(locks) => <LockScreen as Screen<T>>::fits(&**locks, kind, table),
             AnyScreen::Forward(screen) => <ForwardScreen as Screen<T>>::fits(screen, kind, table),
         }
     }
 
     fn make_room(&mut self, asked: &Entry) -> Result<(), NoMemory> {
         match self {
-            AnyScreen::Lock(locks) => <LockScreen as Screen<T>>::make_room(locks, asked),
+            AnyScreen::Lock(locks) => <LockScreen as Screen<T>>::make_room(&mut **locks, asked),
             AnyScreen::Forward(screen) => <ForwardScreen as Screen<T>>::make_room(screen, asked),
         }
     }
@@ -75,14 +75,14 @@ impl<T: SeqType> Screen<T> for AnyScreen {
 
     fn entered(&mut self, entry: &Entry) {
         match self {
-            AnyScreen::Lock(locks) => <LockScreen as Screen<T>>::entered(locks, entry),
+            AnyScreen::Lock(locks) => <LockScreen as Screen<T>>::entered(&mut **locks, entry),
             AnyScreen::Forward(screen) => <ForwardScreen as Screen<T>>::entered(screen, entry),
         }
     }
 
     fn left(&mut self, entry: &Entry) {
         match self {
-            AnyScreen::Lock(locks) => <LockScreen as Screen<T>>::left(locks, entry),
+            AnyScreen::Lock(locks) => <LockScreen as Screen<T>>::left(&mut **locks, entry),
             AnyScreen::Forward(screen) => <ForwardScreen as Screen<T>>::left(screen, entry),
         }
     }

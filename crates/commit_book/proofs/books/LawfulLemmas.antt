@@ -1,5 +1,5 @@
 -- Why each call of a book keeps it lawful.
-use Rattle.std.specs.Prelude.{◌≡◌, ℕ, ◌+◌, Bool, true, false, not, ◌&&◌, if◌then◌else◌, Option, Some, None, List, [], ◌∷◌, ◌++◌, length, refl}
+use Rattle.std.specs.Prelude.{◌≡◌, ℕ, ◌+◌, Bool, true, false, not, ◌&&◌, if◌then◌else◌, Option, Some, None, List, [], ◌∷◌, ◌++◌, length, Result, Err, refl}
 use Rattle.std.proofs.Common.{sym, ◌∙◌, ap, subst, arith}
 use Rattle.std.proofs.lemmas.Bool.{eqb-false, ltb-false}
 use Rattle.std.proofs.lemmas.List.{length-append}
@@ -12,7 +12,7 @@ use Rattle.gx_base.specs.Worklists.{has_item, is_least, with_items, without_item
 use Rattle.commit_book.specs.declared.refusals.CommitRefuse.{CommitRefuse}
 use Rattle.commit_book.specs.declared.refusals.CommitRefuse.TheVariants.{NotReady, Spent, Kept}
 use Rattle.commit_book.specs.BookViews.{Hold, BookView, is_held, without_item_held, first_free, new_book, give, give_found, next_free, hold, put_back, name_off, commit, most_commits, most_steps, is_spent, is_past_journal}
-use Rattle.commit_book.specs.LawfulBooks.{AreRising, AreHeldApart, IsLawfulBook, least_before, not_least, or_else, only_if, refusal}
+use Rattle.commit_book.specs.LawfulBooks.{AreRising, AreHeldApart, IsLawfulBook, least_before, not_least, or_else, only_if, refusal, IsRefusedBy}
 use Rattle.commit_book.proofs.books.HoldLists.{apart-without_item, apart-without_iteration, apart-given, apart-with_name}
 use Rattle.commit_book.proofs.books.Pasts.{journal-append}
 use Rattle.commit_book.proofs.ready.ReadySets.{ready_after-pushes}
@@ -32,9 +32,14 @@ pub new_as : (ordered : Bool) (items first ready : List Item) (holds : List Hold
     → IsLawfulBook (record { ordered = ordered; first_ready = first; ready = ready; holds = holds; commits = commits })
 new_as ordered items first ready holds commits p q r s = subst IsLawfulBook (sym (new_same ordered items first ready holds commits p q r s)) (new_lawful ordered items)
 
-pub with_none : with_items [] [] ≡ []
-unfolding with_items
-with_none = refl
+-- nothing is ready in a book without items, so nothing commits
+pub none_ready : (item : Item) → has_item (with_items [] []) item ≡ false
+unfolding with_items has_item
+none_ready item = refl
+
+pub none_commits : (item : Item) (steps : ℕ) (answer : Result ℕ CommitRefuse) → answer ≡ Err NotReady → IsRefusedBy (refusal (new_book false []) item steps) answer
+unfolding with_items has_item
+none_commits item steps answer e = e
 
 -- ---- holds
 

@@ -37,25 +37,25 @@ printed : (kind : Kind) (method : ℕ) → method_of (kind_number kind) (word_of
 printed kind method n t c s = record { named = n; token = t; clean = c; seen = s }
 
 methods-IsPrinted : (kind : Kind) → EachOf (IsPrinted kind) (methods_of (kind_number kind))
-methods-IsPrinted Set = (printed Set 0 refl refl refl (λ r. refl), (printed Set 1 refl refl refl (λ r. refl), (printed Set 2 refl refl refl (λ r. refl), tt)))
-methods-IsPrinted Cells = (printed Cells 8 refl refl refl (λ r. refl), (printed Cells 9 refl refl refl (λ r. refl), (printed Cells 10 refl refl refl (λ r. refl), tt)))
+methods-IsPrinted Set = (printed Set _ refl refl refl (λ r. refl), (printed Set _ refl refl refl (λ r. refl), (printed Set _ refl refl refl (λ r. refl), tt)))
+methods-IsPrinted Cells = (printed Cells _ refl refl refl (λ r. refl), (printed Cells _ refl refl refl (λ r. refl), (printed Cells _ refl refl refl (λ r. refl), tt)))
 methods-IsPrinted Flow = (
-  printed Flow 16 refl refl refl (λ r. refl),
+  printed Flow _ refl refl refl (λ r. refl),
   (
-    printed Flow 17 refl refl refl (λ r. refl),
+    printed Flow _ refl refl refl (λ r. refl),
     (
-      printed Flow 18 refl refl refl (λ r. refl),
-      (printed Flow 19 refl refl refl (λ r. refl), (printed Flow 20 refl refl refl (λ r. refl), (printed Flow 21 refl refl refl (λ r. refl), tt))),
+      printed Flow _ refl refl refl (λ r. refl),
+      (printed Flow _ refl refl refl (λ r. refl), (printed Flow _ refl refl refl (λ r. refl), (printed Flow _ refl refl refl (λ r. refl), tt))),
     ),
   ),
 )
 methods-IsPrinted Points =
-    (printed Points 32 refl refl refl (λ r. refl), (printed Points 33 refl refl refl (λ r. refl), (printed Points 34 refl refl refl (λ r. refl), (printed Points 35 refl refl refl (λ r. refl), tt))))
+    (printed Points _ refl refl refl (λ r. refl), (printed Points _ refl refl refl (λ r. refl), (printed Points _ refl refl refl (λ r. refl), (printed Points _ refl refl refl (λ r. refl), tt))))
 methods-IsPrinted Domains = (
-  printed Domains 48 refl refl refl (λ r. refl),
+  printed Domains _ refl refl refl (λ r. refl),
   (
-    printed Domains 49 refl refl refl (λ r. refl),
-    (printed Domains 50 refl refl refl (λ r. refl), (printed Domains 51 refl refl refl (λ r. refl), (printed Domains 52 refl refl refl (λ r. refl), tt))),
+    printed Domains _ refl refl refl (λ r. refl),
+    (printed Domains _ refl refl refl (λ r. refl), (printed Domains _ refl refl refl (λ r. refl), (printed Domains _ refl refl refl (λ r. refl), tt))),
   ),
 )
 

@@ -4,7 +4,7 @@ use Rattle.std.specs.Option.{option_map}
 use Rattle.std.proofs.Common.{sym, ◌∙◌, ap, subst}
 use Rattle.std.proofs.lemmas.List.{length-set}
 use Rattle.gx_base.specs.RoomViews.{RoomView, is_book}
-use Rattle.rooms.specs.RoomsViews.{RoomsView, is_held, holds_book, commits_entered, commits_in, nowhere, entered}
+use Rattle.rooms.specs.RoomsViews.{RoomsView, is_held, holds_book, commits_entered, commits_in, nowhere, enters, entered}
 use Rattle.rooms.specs.HandedOut.{IsValueTold, IsHandedOut}
 use Rattle.rooms.specs.Visits.{Visits, count_in, count_of, view_of, AreKeptValues}
 use Rattle.rooms.proofs.puts.Putting.{no_bool, numbers_equal, numbers_differ, get_other}
@@ -59,7 +59,7 @@ module _ {V : Type 0} (tells : V → RoomView) (view : RoomsView V) (values : Li
     released_by q false e h = k.released q h
 
     -- the room's place may have any value then
-    entered_kept : (vacant : V) → room ≤ view.book → AreKeptValues tells (entered view room seen) (slice_set values room vacant)
+    entered_kept : (vacant : V) → room ≤ view.book → AreKeptValues tells (entered tells view room value) (slice_set values room vacant)
     entered_kept vacant in_range = record {
       size = length-set values room vacant ∙ k.size;
       limit = k.limit;
@@ -90,7 +90,7 @@ module _ {V : Type 0} (tells : V → RoomView) (before now : Visits V) (same : b
   value_may_go = subst (λ visits. IsHandedOut tells (view_of tells visits) room value) same (value_handed_out tells (view_of tells before) values k room value free_before told_before)
 
   -- and the rooms are kept then, whatever stands in its place
-  pub hand_out_kept : (vacant : V) (after : Visits V) (values_after : List V) → after ≡ record before { moves = record { was_left = false; room = room; value = value } ∷ before.moves } → values_after ≡ slice_set values room vacant → AreKeptValues tells (view_of tells after) values_after
+  pub hand_out_kept : (vacant : V) (after : Visits V) (values_after : List V) → after ≡ record before { moves = enters room value ∷ before.moves } → values_after ≡ slice_set values room vacant → AreKeptValues tells (view_of tells after) values_after
   hand_out_kept vacant after values_after moved put =
       subst (λ visits. AreKeptValues tells (view_of tells visits) values_after) (sym moved)
-      (subst (λ vs. AreKeptValues tells (entered (view_of tells before) room (tells value)) vs) (sym put) (entered_kept tells (view_of tells before) values k room value free_before told_before vacant in_range_before))
+      (subst (λ vs. AreKeptValues tells (entered tells (view_of tells before) room value) vs) (sym put) (entered_kept tells (view_of tells before) values k room value free_before told_before vacant in_range_before))

@@ -6,7 +6,7 @@ use Rattle.std.proofs.lemmas.List.{length-set}
 use Rattle.std.proofs.lemmas.Option.{same_Some}
 use Rattle.gx_base.specs.Replays.{put}
 use Rattle.gx_base.specs.RoomViews.{RoomView, is_book}
-use Rattle.rooms.specs.RoomsViews.{RoomsView, is_held, holds_book, mark_in, mark_entered, commits_entered, entries_for, nowhere, is_release, told_with, left}
+use Rattle.rooms.specs.RoomsViews.{RoomsView, is_held, holds_book, mark_in, mark_entered, commits_entered, entries_for, nowhere, is_release, told_with, leaves, left}
 use Rattle.rooms.specs.HandedOut.{MayStand, MayHaveMark, MayBeLeft}
 use Rattle.rooms.specs.Visits.{Visits, count_in, count_of, view_of, AreKeptValues}
 use Rattle.rooms.proofs.puts.Putting.{no_bool, numbers_equal, numbers_differ, get_set, get_other}
@@ -146,7 +146,7 @@ module _ {V : Type 0} (tells : V → RoomView) (view : RoomsView V) (values : Li
 
 pub take_back_kept : {V : Type 0} (tells : V → RoomView) (before now after : Visits V) (values values_after : List V) (room : ℕ) (value : V) → before ≡ now → AreKeptValues tells (view_of tells before) values
     → is_held (view_of tells now) room ≡ true → MayBeLeft (view_of tells now) room (tells value)
-    → after ≡ record before { moves = record { was_left = true; room = room; value = value } ∷ before.moves } → values_after ≡ slice_set values room value → AreKeptValues tells (view_of tells after) values_after
+    → after ≡ record before { moves = leaves room value ∷ before.moves } → values_after ≡ slice_set values room value → AreKeptValues tells (view_of tells after) values_after
 take_back_kept tells before now after values values_after room value same k held may moved put =
     subst (λ visits. AreKeptValues tells (view_of tells visits) values_after) (sym moved)
     (subst (λ vs. AreKeptValues tells (left tells (view_of tells before) room value) vs) (sym put)

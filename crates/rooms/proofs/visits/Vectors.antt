@@ -2,9 +2,9 @@
 use Rattle.std.specs.Prelude.{◌≡◌, ℕ, Bool, true, false, if◌then◌else◌, List, [], ◌∷◌, refl}
 use Rattle.std.proofs.Common.{◌∙◌, ap, inl, inr, arith}
 use Rattle.gx_base.specs.RoomViews.{RoomView}
-use Rattle.rooms.specs.RoomsViews.{RoomsView, entered, left}
+use Rattle.rooms.specs.RoomsViews.{Move, RoomsView, entered, left}
 use Rattle.rooms.specs.HandedOut.{CountHasRisen}
-use Rattle.rooms.specs.Visits.{Move, Visits, everyone, first_view, after_moves, view_of}
+use Rattle.rooms.specs.Visits.{Visits, everyone, first_view, after_moves, view_of}
 
 -- what no move changes
 record IsFixed {V : Type 0} (before after : RoomsView V) : Type 0 where
@@ -16,7 +16,7 @@ none_rises before now first last (inl rose) = absurd (omega arith)
 none_rises before now first last (inr stays) = let full : before ≡ 18446744073709551615 = stays.0 in absurd (omega arith)
 
 module _ {V : Type 0} (tells : V → RoomView) where
-  one_move : (was_left : Bool) (room : ℕ) (value : V) (view : RoomsView V) → IsFixed view (if was_left then left tells view room value else entered view room (tells value))
+  one_move : (was_left : Bool) (room : ℕ) (value : V) (view : RoomsView V) → IsFixed view (if was_left then left tells view room value else entered tells view room value)
   one_move true room value view = record { acts_for = refl; lost = refl }
   one_move false room value view = record { acts_for = refl; lost = refl }
 

@@ -3,7 +3,7 @@ use Rattle.rooms.proofs.laws.a_visit_changes_one_room.Goals as goal
 
 pub returns : goal.returns
 returns g c = record {
-  gate = λ view room seen value free e h. visited_gate g.V.Homed.told view room seen value free e h;
-  released = λ view room seen value free e h m. released_gate g.V.Homed.told view room seen value free e h m;
-  book = λ view seen value free. visited_book g.V.Homed.told view seen value free;
+  gate = λ view room was now free e h. visited_gate g.V.Homed.told view room was now free e h;
+  released = λ view room was now free e h m. released_gate g.V.Homed.told view room was now free e h m;
+  book = λ view was now free. visited_book g.V.Homed.told view was now free;
 }

@@ -1,15 +1,16 @@
-use Rattle.std.proofs.Common.{◌∙◌, sym, ap, []}
-use Rattle.commit_book.specs.BookViews.{commit}
-use Rattle.commit_book.proofs.books.LawfulLemmas.{committed, committed_lawful}
+use Rattle.std.proofs.Common.{◌≡◌, ℕ, length, Result, sym, subst, ap, ◌∙◌}
+use Rattle.commit_book.specs.declared.refusals.CommitRefuse.{CommitRefuse}
+use Rattle.commit_book.specs.BookViews.{BookView}
+use Rattle.commit_book.specs.LawfulBooks.{IsRefusedBy, refusal}
+use Rattle.commit_book.specs.StoredBooks.{book_with}
+use Rattle.commit_book.proofs.books.LawfulLemmas.{none_commits}
 use Rattle.commit_book.proofs.book.Book.commit.Goals as goal
+use Rattle.commit_book.proofs.book.Book.commit.Goals.{in-Some, in-None}
 
-pub invariant_of-self-2 : goal.invariant_of-self-2
-invariant_of-self-2 c =
-    committed_lawful _ c.args.worker c.args.iter c.args.item c.args.log.now c.args.pushes.now _ _ _ _ c.self.invariant (sym c.why_not.ensures ∙ c.in_default.is)
-    c.in_default-take_in.ensures.ok.0 c.leave.ensures.ready c.leave.ensures.holds c.in_default-take_in.ensures.ok.1
-
-pub returns-clause-ok : goal.returns-clause-ok
-returns-clause-ok c =
-    committed _ c.args.worker c.args.iter c.args.item c.args.log.now c.args.pushes.now _ _ _ _ c.self.invariant.rising
-    c.in_default-take_in.ensures.ok.0 c.leave.ensures.ready c.leave.ensures.holds c.in_default-take_in.ensures.ok.1
-    ∙ ap (λ b. commit b c.args.worker c.args.iter c.args.item (record { steps = c.args.log.now; pushes = c.args.pushes.now; withdrawn = [] })) c.self.view_is
+pub returns-clause-refused : goal.returns-clause-refused
+returns-clause-refused c = elim c.match-self.branch [
+  | in-Some w ↦ subst (λ (r : Result ℕ CommitRefuse). IsRefusedBy (refusal c.args.self.now c.args.item (length c.args.log.now)) r) (sym w.result-is)
+      (subst (λ (b : BookView). IsRefusedBy (refusal b c.args.item (length c.args.log.now)) w.commit.result) (w.deref_mut.ensures.value ∙ ap book_with (sym w.in-Some.is) ∙ c.self.view_is) w.commit.ensures.refused)
+  | in-None w ↦ subst (λ (b : BookView). IsRefusedBy (refusal b c.args.item (length c.args.log.now)) c.match-self.result) (ap book_with (sym w.in-None.is) ∙ c.self.view_is)
+      (none_commits c.args.item (length c.args.log.now) c.match-self.result w.result-is)
+]

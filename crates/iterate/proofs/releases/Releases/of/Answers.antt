@@ -14,4 +14,4 @@ noted log n k d keys now e h was is =
 
 pub loop-place-preserved : goal.loop-place-preserved
 loop-place-preserved c =
-    noted c.args.log.now c.loop-place.place (c.loop-place.place - 1) _ c.loop-place.rooms.keys c.insert.new.self.keys (omega arith) (omega arith) c.loop-place.invariant c.in_ok-insert.ensures.keys
+    noted c.args.log.now c.loop-place.place (c.loop-place.place - 1) _ c.loop-place.rooms.items c.put_room.new.rooms.items (omega arith) (omega arith) c.loop-place.invariant c.in_ok-put_room.ensures

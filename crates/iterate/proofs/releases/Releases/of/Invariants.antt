@@ -3,4 +3,4 @@ use Rattle.iterate.specs.RoomLists.{rooms_of}
 use Rattle.iterate.proofs.releases.Releases.of.Given as goal
 
 abbrev pub invariant-loop-place : goal.invariant-loop-place
-invariant-loop-place l = l.rooms.keys ≡ rooms_of (drop l.place l.log)
+invariant-loop-place l = l.rooms.items ≡ rooms_of (drop l.place l.log)

@@ -11,8 +11,7 @@ use Rattle.iterate.specs.declared.events.Stop.TheVariants as stops
 use Rattle.iterate.specs.declared.session.Phase.TheVariants as code
 use Rattle.iterate.proofs.ShownTurns.{shown}
 use Rattle.iterate.proofs.GateVisits.{gate_visited}
-use Rattle.iterate.proofs.GivingUp.{quiet_itself, quiet_visit}
-use Rattle.iterate.proofs.CallTurns.{asking_as, noted_as, noted, asking_free, asking_below, call_lost, call_turn, conflict_turn, stop_turn}
+use Rattle.iterate.proofs.CallTurns.{asking_as, noted_as, noted, call_lost, call_turn, conflict_turn, stop_turn, stop_in_gate}
 use Rattle.iterate.proofs.session.Session.call.Goals as goal
 
 pub returns-then-is_err-clause-turn : goal.returns-then-is_err-clause-turn
@@ -22,7 +21,7 @@ returns-then-is_err-clause-turn g c =
     subst (λ (log : List Step). GaveUp (g.R.Rooms.view c.args.rooms.now) (g.R.Rooms.view c.stop.new.rooms) (record (core_of c.args.self.now) { log = log; pushes = [] }) (core_of c.stop.new.self) c.stop.new.self.phase) c.reserve.ensures.items c.stop.ensures.gave_up in
     subst (λ r. TakesTurn (operator_of g.O.Operator c.args._op.now) (g.R.Rooms.view c.args.rooms.now) (g.R.Rooms.view c.stop.new.rooms) (view_of (g.O.Operator.rest c.args._op.now) c.args.self.now) (view_of (g.O.Operator.rest c.args._op.now) c.stop.new.self) r) (sym c.stop.ensures.stop)
     (shown (operator_of g.O.Operator c.args._op.now) (g.R.Rooms.view c.args.rooms.now) (g.R.Rooms.view c.stop.new.rooms) (g.O.Operator.rest c.args._op.now) (core_of c.args.self.now) (core_of c.stop.new.self) (core_of c.stop.new.self) c.args.self.now.phase (code.Asking ask.0 c.args.room c.args.call) c.stop.new.self.phase c.stop.new.self.phase (Err stops.NoMemory) ask.1 refl refl
-    (λ fit. stop_turn (operator_of g.O.Operator c.args._op.now) (g.R.Rooms.view c.args.rooms.now) (g.R.Rooms.view c.stop.new.rooms) (g.O.Operator.rest c.args._op.now) (core_of c.args.self.now) ask.0 c.args.room c.args.call (g.R.Rooms.view c.args.rooms.now) (core_of c.stop.new.self) c.stop.new.self.phase fit (quiet_itself (g.R.Rooms.view c.args.rooms.now) (asking_free (operator_of g.O.Operator c.args._op.now) (g.R.Rooms.view c.args.rooms.now) (g.O.Operator.rest c.args._op.now) (core_of c.args.self.now) c.args.self.now.phase ask.0 c.args.room c.args.call ask.1 c.requires.fit)) gave_up)
+    (λ fit. stop_turn (operator_of g.O.Operator c.args._op.now) (g.R.Rooms.view c.args.rooms.now) (g.R.Rooms.view c.stop.new.rooms) (g.O.Operator.rest c.args._op.now) (core_of c.args.self.now) ask.0 c.args.room c.args.call (core_of c.stop.new.self) c.stop.new.self.phase fit gave_up)
     c.requires.fit)
 
 pub returns-in-None-clause-turn : goal.returns-in-None-clause-turn
@@ -63,5 +62,6 @@ returns-in-NoMemory-clause-turn g c =
     subst (λ (log : List Step). GaveUp (g.R.Rooms.view c.leave_gate-in-Err.new.rooms) (g.R.Rooms.view c.stop-in-NoMemory.new.rooms) (record (core_of c.args.self.now) { log = log; pushes = [] }) (core_of c.stop-in-NoMemory.new.self) c.stop-in-NoMemory.new.self.phase) c.reserve.ensures.items c.stop-in-NoMemory.ensures.gave_up in
     subst (λ r. TakesTurn (operator_of g.O.Operator c.args._op.now) (g.R.Rooms.view c.args.rooms.now) (g.R.Rooms.view c.stop-in-NoMemory.new.rooms) (view_of (g.O.Operator.rest c.args._op.now) c.args.self.now) (view_of (g.O.Operator.rest c.args._op.now) c.stop-in-NoMemory.new.self) r) (sym c.stop-in-NoMemory.ensures.stop)
     (shown (operator_of g.O.Operator c.args._op.now) (g.R.Rooms.view c.args.rooms.now) (g.R.Rooms.view c.stop-in-NoMemory.new.rooms) (g.O.Operator.rest c.args._op.now) (core_of c.args.self.now) (core_of c.stop-in-NoMemory.new.self) (core_of c.stop-in-NoMemory.new.self) c.args.self.now.phase (code.Asking ask.0 c.args.room c.args.call) c.stop-in-NoMemory.new.self.phase c.stop-in-NoMemory.new.self.phase (Err stops.NoMemory) ask.1 refl refl
-    (λ fit. stop_turn (operator_of g.O.Operator c.args._op.now) (g.R.Rooms.view c.args.rooms.now) (g.R.Rooms.view c.stop-in-NoMemory.new.rooms) (g.O.Operator.rest c.args._op.now) (core_of c.args.self.now) ask.0 c.args.room c.args.call (g.R.Rooms.view c.leave_gate-in-Err.new.rooms) (core_of c.stop-in-NoMemory.new.self) c.stop-in-NoMemory.new.self.phase fit (quiet_visit (g.R.Rooms.view c.args.rooms.now) (g.R.Rooms.view c.leave_gate-in-Err.new.rooms) c.args.room c.in-Some.gate (gate_visited (g.R.Rooms.view c.args.rooms.now) (g.R.Rooms.view c.enter_gate.new.rooms) (g.R.Rooms.view c.leave_gate-in-Err.new.rooms) c.args.room c.in-Some.gate c.call.new.self c.in-Some.gate c.in-Some.ensures.gate c.in-Some.ensures.some c.leave_gate-in-Err.ensures.view refused) (asking_below (operator_of g.O.Operator c.args._op.now) (g.R.Rooms.view c.args.rooms.now) (g.O.Operator.rest c.args._op.now) (core_of c.args.self.now) c.args.self.now.phase ask.0 c.args.room c.args.call ask.1 c.requires.fit) (asking_free (operator_of g.O.Operator c.args._op.now) (g.R.Rooms.view c.args.rooms.now) (g.O.Operator.rest c.args._op.now) (core_of c.args.self.now) c.args.self.now.phase ask.0 c.args.room c.args.call ask.1 c.requires.fit)) gave_up)
+    (λ fit. stop_in_gate (operator_of g.O.Operator c.args._op.now) (g.R.Rooms.view c.args.rooms.now) (g.R.Rooms.view c.stop-in-NoMemory.new.rooms) (g.O.Operator.rest c.args._op.now) (core_of c.args.self.now) ask.0 c.args.room c.args.call (g.R.Rooms.view c.leave_gate-in-Err.new.rooms) (core_of c.stop-in-NoMemory.new.self) c.stop-in-NoMemory.new.self.phase fit c.in-Some.gate
+    (gate_visited (g.R.Rooms.view c.args.rooms.now) (g.R.Rooms.view c.enter_gate.new.rooms) (g.R.Rooms.view c.leave_gate-in-Err.new.rooms) c.args.room c.in-Some.gate c.call.new.self c.in-Some.gate c.in-Some.ensures.gate c.in-Some.ensures.some c.leave_gate-in-Err.ensures.view refused) gave_up)
     c.requires.fit)

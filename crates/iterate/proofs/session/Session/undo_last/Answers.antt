@@ -13,7 +13,7 @@ undo_in-requires-clause-in_range g c = in_range (operator_of g.O.Operator c.args
 pub returns-then-not-undo_in-clause-turn : goal.returns-then-not-undo_in-clause-turn
 returns-then-not-undo_in-clause-turn g c =
     shown (operator_of g.O.Operator c.args._op.now) (g.R.Rooms.view c.args.rooms.now) (g.R.Rooms.view c.undo_in.new.rooms) (g.O.Operator.rest c.args._op.now) (core_of c.args.self.now) (core_of c.args.self.now) (core_of c.args.self.now) c.args.self.now.phase code.Undoing c.args.self.now.phase code.Undoing (Ok events.Busy) c.requires.phase refl c.requires.phase
-    (λ fit. undo_one_lost (operator_of g.O.Operator c.args._op.now) (g.R.Rooms.view c.args.rooms.now) (g.R.Rooms.view c.undo_in.new.rooms) (g.O.Operator.rest c.args._op.now) (core_of c.args.self.now) fit c.args.last c.requires.last (c.undo_in.ensures.lost c.if-not-undo_in.true))
+    (λ fit. undo_one_lost (operator_of g.O.Operator c.args._op.now) (g.R.Rooms.view c.args.rooms.now) (g.R.Rooms.view c.undo_in.new.rooms) (g.O.Operator.rest c.args._op.now) (core_of c.args.self.now) fit c.args.last c.requires.last (others_before c.args.self.now.log.items c.args.last c.requires.last c.requires.others) (c.undo_in.ensures.lost c.if-not-undo_in.true))
     c.requires.fit
 
 pub returns-clause-turn : goal.returns-clause-turn

@@ -2,4 +2,4 @@ use Rattle.table_choice.proofs.sorts.KeptSuits.{kept}
 use Rattle.table_choice.proofs.screens.AnyScreenScreen.first_failing.Goals as goal
 
 pub returns-in-Lock-clause-same : goal.returns-in-Lock-clause-same
-returns-in-Lock-clause-same g c = kept c.args.self.now c.in-Lock.locks c.first_failing.new.self c.in-Lock.is c.first_failing.ensures.same
+returns-in-Lock-clause-same g c = kept c.args.self.now c.in-Lock.locks _ c.first_failing.new.self c.in-Lock.is c.deref_mut.ensures.value c.first_failing.ensures.same

@@ -1,0 +1,6 @@
+use Rattle.flow_graph.specs.Uses.{sort_of}
+use Rattle.flow_graph.proofs.flow_rows.Rooms.{no_row}
+use Rattle.flow_graph.proofs.shard.FlowShard.has_row.Goals as goal
+
+pub returns-in-None : goal.returns-in-None
+returns-in-None c = no_row c.args.self.now.numbers (sort_of c.args.quantity) c.args.key c.in-None.is

@@ -1,0 +1,6 @@
+use Rattle.gx_base.specs.declared.kinds.Kind.TheVariants.{Set}
+use Rattle.gx_base.specs.declared.kinds.Choice.TheVariants.{Simple}
+use Rattle.screen_tests.proofs.screen_gates.scanned_set.Goals as goal
+
+pub new-requires-2-clause-valid : goal.new-requires-2-clause-valid
+new-requires-2-clause-valid c = c.shipped_tables_serve_gates.ensures.valid Set Simple c.in_ok-table.table c.in_ok-table.ensures
