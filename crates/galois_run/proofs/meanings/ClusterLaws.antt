@@ -1,5 +1,5 @@
 -- What is shown of `cluster`, and of the runs of points.
-use Rattle.std.proofs.Common.{◌≡◌, ◌⊎◌, inl, inr, ℕ, ◌+◌, ◌^◌, ◌<◌, false, Err, List, [], ◌∷◌, Option, Some, None, refl, sym, ap, subst, ◌∙◌, arith}
+use Rattle.std.proofs.Common.{◌≡◌, inl, inr, ℕ, ◌+◌, ◌^◌, ◌<◌, false, Err, List, [], ◌∷◌, Option, Some, None, refl, sym, ap, ◌∙◌, arith}
 use Rattle.gx_base.specs.declared.calls.Spot.{Spot}
 use Rattle.gx_base.specs.declared.inputs.What.{What}
 use Rattle.gx_base.specs.declared.inputs.What.TheVariants.{File, Nodes, Arcs, Points as PointsLimit, Nets, Horizon, Size}
@@ -22,8 +22,7 @@ use Rattle.cluster_laws.specs.ClusterRuns.{chain_operator}
 use Rattle.cluster_laws.proofs.RunLaws.{merge_mutual, end_in_one}
 use Rattle.galois_run.specs.declared.status.TableFault.{TableFault}
 use Rattle.galois_run.specs.declared.status.TableFault.TheVariants.{Line, Pair}
-use Rattle.galois_run.specs.LoopRuns.{GateTables}
-use Rattle.galois_run.specs.RunTables.{IsRunTable, IsTableFault}
+use Rattle.galois_run.specs.RunTables.{IsRunTable}
 use Rattle.galois_run.specs.commands.Cluster.{cluster_command, cluster_loop, AreChosen, AreRunTables, AreBadConditions, IsConditionsFault, AreOfFile, both_tables}
 use Rattle.galois_run.proofs.meanings.ClusterTables.{no_fault_in}
 use Rattle.galois_run.proofs.meanings.ConditionTexts.{for_others, has_points, has_cells, not_both}

@@ -1,12 +1,12 @@
 -- The text of conditions that may be for one of several kinds, and for that kind alone.
-use Rattle.std.proofs.Common.{◌≡◌, ◌⊎◌, inl, inr, ℕ, ◌<◌, List, [], ◌∷◌, Contains, refl, sym, ap, subst, ◌∙◌, arith}
+use Rattle.std.proofs.Common.{◌≡◌, ℕ, ◌<◌, List, [], ◌∷◌, Contains, refl, sym, subst, arith}
 use Rattle.gx_base.specs.declared.kinds.Kind.{Kind}
-use Rattle.gx_base.specs.declared.kinds.Kind.TheVariants.{Set, Cells, Flow, Points, Domains}
+use Rattle.gx_base.specs.declared.kinds.Kind.TheVariants.{Cells, Points}
 use Rattle.gx_base.specs.TableRows.{RowMap}
 use Rattle.text_lines.specs.Lines.{lines_of}
-use Rattle.cond_syntax.specs.TableTexts.{IsTableText, IsWanted, SoFar, Untyped, Typed, IsRead, AreRead, skipped, type_line, row}
+use Rattle.cond_syntax.specs.TableTexts.{IsTableText, SoFar, Untyped, Typed, IsRead, AreRead, skipped, type_line, row}
 use Rattle.cond_syntax.proofs.CallerLemmas.{same_table}
-use Rattle.galois_run.specs.commands.Cluster.{cloud_kinds, IsTextOf}
+use Rattle.galois_run.specs.commands.Cluster.{cloud_kinds}
 
 -- what has been read is of this kind, where a type has been
 abbrev IsOf : Kind → SoFar → Type 0

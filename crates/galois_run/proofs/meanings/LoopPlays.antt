@@ -11,7 +11,7 @@ use Rattle.speculation.specs.ScheduledRuns.{AllBelow}
 use Rattle.schedules.specs.Draws.{schedule_of}
 use Rattle.rooms.specs.RoomsViews.{is_held}
 use Rattle.rooms.specs.Values.{tells}
-use Rattle.rooms.specs.Visits.{Visits, AreGatesAndBook, first_view, after_moves, view_of}
+use Rattle.rooms.specs.Visits.{Visits, AreGatesAndBook, view_of}
 use Rattle.rooms.specs.declared.values.Value.{Value}
 use Rattle.iterate.specs.Plays.{AreNewFor, IsPlayed, PassesFirst, begun_machine, stop_of}
 use Rattle.iterate.specs.declared.events.Stop.{Stop}

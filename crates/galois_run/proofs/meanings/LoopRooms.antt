@@ -18,7 +18,7 @@ use Rattle.speculation.specs.Machines.{Machine}
 use Rattle.speculation.specs.RunResults.{object_states, end_in}
 use Rattle.speculation.specs.ScheduledRuns.{is_empty, Run}
 use Rattle.rooms.specs.Values.{tells}
-use Rattle.rooms.specs.Visits.{Visits, AreGatesAndBook}
+use Rattle.rooms.specs.Visits.{AreGatesAndBook}
 use Rattle.rooms.specs.declared.values.Value.{Value}
 use Rattle.rooms.specs.declared.values.Value.TheVariants.{Object, Book}
 use Rattle.iterate.specs.Places.{no_gate}

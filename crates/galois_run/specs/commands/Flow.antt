@@ -1,5 +1,5 @@
 -- What `flow` runs, and on which files.
-use Rattle.std.specs.Prelude.{◌≡◌, ◌⊎◌, ℕ, ◌≤◌, true, Option, Some, None, List, ⊤}
+use Rattle.std.specs.Prelude.{◌≡◌, ◌⊎◌, ℕ, Option, List, ⊤}
 use Rattle.gx_base.specs.declared.inputs.What.{What}
 use Rattle.gx_base.specs.declared.inputs.What.TheVariants.{Nodes, Arcs}
 use Rattle.gx_base.specs.declared.kinds.Kind.TheVariants.{Flow}
@@ -12,7 +12,6 @@ use Rattle.preflow_push.specs.Discharge.{discharge_operator}
 use Rattle.preflow_push.specs.Starts.{start_states, start_ready}
 use Rattle.preflow_push.specs.FlowReports.{flow_report}
 use Rattle.galois_run.specs.declared.options.RunOptions.{RunOptions}
-use Rattle.galois_run.specs.declared.status.TableFault.{TableFault}
 use Rattle.galois_run.specs.CommandMeaning.{CommandMeaning}
 use Rattle.galois_run.specs.LoopRuns.{Loop, GateTables}
 use Rattle.galois_run.specs.LoopCommands.{LoopCommand, loop_meaning}

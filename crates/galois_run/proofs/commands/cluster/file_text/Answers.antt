@@ -1,4 +1,4 @@
-use Rattle.std.specs.Prelude.{refl, Ok}
+use Rattle.std.specs.Prelude.{refl}
 use Rattle.std.proofs.Common.{sym, subst}
 use Rattle.clustering.specs.PointFiles.{IsReadable, answer_of}
 use Rattle.galois_run.specs.commands.Cluster.{cluster_command, tables_in}

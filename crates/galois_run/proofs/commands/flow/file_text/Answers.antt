@@ -1,4 +1,4 @@
-use Rattle.std.specs.Prelude.{refl, Ok}
+use Rattle.std.specs.Prelude.{refl}
 use Rattle.preflow_push.specs.FlowLimits.{answer_of}
 use Rattle.preflow_push.specs.Networks.{view}
 use Rattle.galois_run.specs.commands.Flow.{flow_command, shard_tables}
