@@ -17,7 +17,7 @@ use Rattle.speculation.specs.Limits as limits
 use Rattle.speculation.specs.Machines.{Place, Turned, committed, turn_at}
 use Rattle.speculation.specs.Sessions.{Finished, ended, undoing}
 use Rattle.speculation.proofs.IterationEntries.{no_mades}
-use Rattle.speculation.proofs.Putting.{numbers_equal}
+use Rattle.speculation.proofs.Putting.{no_bool, numbers_equal}
 use Rattle.rooms.specs.RoomsViews.{RoomsView, is_held, entered}
 use Rattle.rooms.specs.HandedOut.{IsHandedOut}
 use Rattle.rooms.specs.Values.{tells}
@@ -197,7 +197,7 @@ module _ {T S St : Type 0} (op : Operator) (a b : RoomsView (Value T S)) (rest :
     cut_answers t q e room n h = (
       subst (λ (x : Shared). IsAfter x (event_of e) t q) (cut_is room n) h,
       busy_by p c.worker e h.event_is,
-      (λ k m. (ap (λ (u : Turned). is_commit u.event) turns, limit)),
+      (λ k. ((λ m. absurd (no_bool (is_named was c.worker c.iter) m unnamed_is)), (λ m. (ap (λ (u : Turned). is_commit u.event) turns, limit)))),
     )
 
     lift_answers : (t : SessionView) (q : Place) (e : CodeEvent) (lost : Option ℕ) → ((room : ℕ) → lost ≡ Some room → (a.book == room) ≡ false) → IsAfter (shared_in op a.book making inner (Some made) lost) (event_of e) t q

@@ -197,7 +197,7 @@ module _ {T S St : Type 0} (op : Operator) (a b : RoomsView (Value T S)) (rest :
     stop_moves : (stop : Stop) → VisitMoves (Err stop)
     stop_moves stops.Spent now t e = e
     stop_moves stops.Kept now t e = e
-    stop_moves stops.NoMemory now t e = in_book refl e
+    stop_moves stops.NoMemory now t e = in_book refl refl e
 
     stop_turn : (stop : Stop) → pushes ≡ [] → IsCause stop (limit_on op p c.worker) → TakesTurn op a b finished (view_in rest new phase) (Err stop)
     stop_turn stop none cause = give_turn (Err stop)

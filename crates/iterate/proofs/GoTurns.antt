@@ -147,7 +147,7 @@ module _ {T S : Type 0} (op : Operator) (a b : RoomsView (Value T S)) (c : Core)
       cut_well : (f : Phase) (room : ℕ) → IsCutIn op a.book further c.worker f room → IsCutIn op a.book before c.worker f room
       cut_well Idle room h = tt
       cut_well (Running rest) room h = λ e. ap (λ (u : Turned). is_conflict u.event) turns ∙ h e
-      cut_well Finished room h = λ e n. (ap (λ (u : Turned). is_commit u.event) turns ∙ (h e n).0, sym limit_same ∙ (h e n).1)
+      cut_well Finished room h = λ e. ((h e).0, λ n. (ap (λ (u : Turned). is_commit u.event) turns ∙ ((h e).1 n).0, sym limit_same ∙ ((h e).1 n).1))
       cut_well Undoing room h = tt
 
       goes_well : (lost : Option ℕ) → GoesWell op a.book further c.worker None lost → GoesWell op a.book before c.worker None lost

@@ -62,7 +62,7 @@ module _ {T S St : Type 0} (op : Operator) (a b : RoomsView (Value T S)) (rest :
   take_stops fit was visit =
       let s : SessionView = idle_view in
       book_turn op a b s s was was visit fit refl refl refl refl (λ room es h. h) fit.within (no_calls fit) (Err stops.NoMemory)
-      (record { may = refl; cause = tt; held = λ r e. absurd (cc); place_is = refl; opened_is = refl; pushed_is = refl }) (in_book refl (book_visit_moves a b was was visit))
+      (record { may = refl; cause = tt; held = λ r e. absurd (cc); place_is = refl; opened_is = refl; pushed_is = refl }) (in_book refl refl (book_visit_moves a b was was visit))
 
   fresh_log : c.log ≡ [] → (item : Item) (phase : CodePhase St) → log_of phase [] ≡ [] → (room : ℕ) (es : List Entry) → IsLogOf room idle_view es → IsLogOf room (view_in rest (begins c item) phase) es
   fresh_log none item phase l room es h =

@@ -98,12 +98,12 @@ ends_in_book (Running plan) = false
 ends_in_book Finished = true
 ends_in_book Undoing = false
 
--- memory was wanting before a room was entered, in the gate of the call, or in the book
+-- memory was wanting before a room was entered, in the gate of the call, or in the book, which then wasn't held
 pub data WasWanting {T S : Type 0} (book : ℕ) (was now : ℕ → GateView) (book_was book_now : BookView) (phase : Phase) (steps : List Step) (lost : Option ℕ) (moves after : RoomMoves T S) : Type 0 where
   in_no_room : after ≡ puts_back book was now book_was book_now steps lost moves → WasWanting book was now book_was book_now phase steps lost moves after
   in_gate : (room : ℕ) → asks_at phase room ≡ true → after ≡ puts_back book was now book_was book_now steps lost (at_gate book was now book_was book_now room moves)
       → WasWanting book was now book_was book_now phase steps lost moves after
-  in_book : ends_in_book phase ≡ true → after ≡ at_book book was now book_was book_now moves → WasWanting book was now book_was book_now phase steps lost moves after
+  in_book : ends_in_book phase ≡ true → lost ≡ None → after ≡ at_book book was now book_was book_now moves → WasWanting book was now book_was book_now phase steps lost moves after
 
 abbrev pub StopMoves : {T S : Type 0} → (book : ℕ) → (was now : ℕ → GateView) → (book_was book_now : BookView) → Stop → Phase → List Step → Option ℕ → (moves after : RoomMoves T S) → Type 0
 StopMoves book was now book_was book_now stops.Spent phase steps lost moves after = after ≡ at_book book was now book_was book_now moves

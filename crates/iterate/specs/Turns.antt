@@ -11,7 +11,7 @@ use Rattle.speculation.specs.Events as event
 use Rattle.speculation.specs.Limits.{Limit, limit_at}
 use Rattle.speculation.specs.Limits as limit
 use Rattle.speculation.specs.Machines.{Place, entry_of, turn_at}
-use Rattle.speculation.specs.Sessions.{Phase, Idle, Running, Finished, Undoing}
+use Rattle.speculation.specs.Sessions.{Phase, Idle, Running, Finished, Undoing, last_step}
 use Rattle.rooms.specs.HandedOut.{CountHasRisen}
 use Rattle.rooms.specs.RoomsViews.{Move, RoomsView}
 use Rattle.rooms.specs.declared.values.Value.{Value}
@@ -19,7 +19,7 @@ use Rattle.iterate.specs.declared.events.Event.{Event as CodeEvent}
 use Rattle.iterate.specs.declared.events.Event.TheVariants as code
 use Rattle.iterate.specs.declared.events.Stop.{Stop}
 use Rattle.iterate.specs.declared.events.Stop.TheVariants as stops
-use Rattle.iterate.specs.Needs.{gone_on, needs}
+use Rattle.iterate.specs.Needs.{gone_on, is_last, needs}
 use Rattle.iterate.specs.Places.{gate_of, IfTold, IsFit, StandsOn}
 use Rattle.iterate.specs.SessionViews.{OpenCommit, SessionView}
 use Rattle.iterate.specs.SharedTurns.{Shared, shared_turn, stopped_at}
@@ -67,13 +67,14 @@ pub record IsLostIn {V : Type 0} (before after : RoomsView V) (session : Session
 abbrev pub limit_on : Operator → Place → ℕ → Option Limit
 limit_on op p worker = limit_at (turn_at op p worker).event p.book (length p.session.outcome.steps)
 
--- where a running session finds the book held, it was in conflict before; where a finished one finds another room held, it has
--- committed. No commit passed a limit
+-- where a running session finds the book held, it was in conflict before. Where a finished one finds another room held, that is the
+-- room of its last call if the iteration is named, and else it has committed, and the commit passed no limit
 abbrev pub IsCutIn : Operator → (book : ℕ) → Place → ℕ → Phase → ℕ → Type 0
 IsCutIn op book p worker Idle room = ⊤
 IsCutIn op book p worker (Running plan) room = (book == room) ≡ true → is_conflict (turn_at op p worker).event ≡ true
 IsCutIn op book p worker Finished room =
-    (book == room) ≡ false → is_named p.book worker p.session.iter ≡ false → (is_commit (turn_at op p worker).event ≡ true) × (limit_on op p worker ≡ None)
+    (book == room) ≡ false → (is_named p.book worker p.session.iter ≡ true → is_last (last_step p.session.outcome.steps) room ≡ true)
+    × (is_named p.book worker p.session.iter ≡ false → (is_commit (turn_at op p worker).event ≡ true) × (limit_on op p worker ≡ None))
 IsCutIn op book p worker Undoing room = ⊤
 
 abbrev pub GoesWell : Operator → (book : ℕ) → Place → ℕ → Option OpenCommit → Option ℕ → Type 0

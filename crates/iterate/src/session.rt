@@ -114,7 +114,7 @@ impl<O: Operator> Session<O> {
         self.log.len()
     }
 
-    /// One turn, which never waits: where it needs a room that another caller holds, it is `Busy`.
+    /// One turn, which never waits: where it needs a room that another caller holds, it is `Busy`, or is cut short there.
     pub fn turn<R: Rooms<Value<T, S>>, T: SeqType, S: Screen<T>>(
         &mut self,
         rooms: &mut R,

@@ -76,11 +76,11 @@ module _ (T S : Type 0) (free blocked : GateView) (book : BookView) (f : IsBegun
     doing = ((λ room. refl), refl);
   }
 
--- lost takes change nothing of that
+-- nor do they need to tell their values for that, and lost takes change nothing of it
 pub lossy_begin : {T S : Type 0} (visits : Visits (Value T S)) (lost : List ℕ) → MayBeginHere (view_of tells visits) → MayBeginHere (lossy_view tells visits lost)
 lossy_begin visits lost begun op rooms ordered =
     let fit = begun op rooms ordered in
-    record { acts = fit.acts; book = fit.book; ordered = fit.ordered; ordered_told = fit.ordered_told; live = fit.live; live_told = fit.live_told; within = fit.within; doing = fit.doing }
+    record { acts = fit.acts; book = fit.book; ordered = fit.ordered; ordered_told = tt; live = fit.live; live_told = λ room below. tt; within = fit.within; doing = fit.doing }
 
 pub three_begin_as : {T S : Type 0} (free blocked : GateView) (book : BookView) → IsBegunGate free → IsBegunGate blocked → (visits : Visits (Value T S)) (items : List (Value T S)) → visits ≡ record { values = items; moves = [] } → items ≡ Object free ∷ Object blocked ∷ Book book ∷ [] → book.ordered ≡ false → MayBeginHere (view_of tells visits)
 three_begin_as {T} {S} free blocked book f b visits items new made o =

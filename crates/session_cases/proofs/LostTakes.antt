@@ -1,14 +1,15 @@
--- A take that the list says is lost.
-use Rattle.std.specs.Prelude.{◌≡◌, ◌⊎◌, ℕ, ◌+◌, ◌<◌, ◌≤◌, min, Bool, true, false, ◌==◌, if◌then◌else◌, Option, Some, None, IfNone, List, length, slice_index_or, slice_set, refl}
-use Rattle.std.proofs.Common.{sym, ap, subst, inl, inr, arith}
+-- A take that the list says is lost, and the others, over rooms that tell no values.
+use Rattle.std.specs.Prelude.{◌≡◌, ◌⊎◌, ℕ, ◌+◌, ◌<◌, ◌≤◌, min, Bool, true, false, ◌==◌, if◌then◌else◌, Option, Some, None, IfSome, IfNone, List, length, slice_index_or, slice_set, refl}
+use Rattle.std.proofs.Common.{sym, ◌∙◌, ap, subst, inl, inr, arith}
 use Rattle.std.proofs.lemmas.Bool.{cases_lt}
 use Rattle.std.proofs.lemmas.List.{get_or-set_same, get_or-set_other}
 use Rattle.std.proofs.lemmas.Option.{slice_get_read, get_or_from_slice_get}
 use Rattle.std.specs.Cmp.{unsigned_Decides}
 use Rattle.gx_base.specs.RoomViews.{RoomView}
-use Rattle.rooms.specs.HandedOut.{CountHasRisen, IsLost}
+use Rattle.rooms.specs.RoomsViews.{RoomsView, left}
+use Rattle.rooms.specs.HandedOut.{CountHasRisen, IsLost, IsHandedOut}
 use Rattle.rooms.specs.Visits.{Visits, view_of}
-use Rattle.rooms.proofs.CallerLemmas.{vector_never_risen}
+use Rattle.rooms.proofs.CallerLemmas.{put_itself, vector_never_risen}
 use Rattle.session_cases.specs.LostTakes.{lossy_view}
 
 module _ (lost : List ℕ) (room count : ℕ) (inside : room < length lost) where
@@ -25,7 +26,7 @@ module _ (lost : List ℕ) (room count : ℕ) (inside : room < length lost) wher
   take_is_lost : {V : Type 0} (tells : V → RoomView) (visits : Visits V) → CountHasRisen (slice_index_or lost room 0) count → IsLost (lossy_view tells visits lost) (lossy_view tells visits (slice_set lost room count)) room
   take_is_lost tells visits h = record {
     risen = subst (λ n. CountHasRisen (slice_index_or lost room 0) n) (sym here) h;
-    same = λ i. record (view_of tells visits) { lost = λ number. counts_by number (room == number) refl i };
+    same = λ i. record (view_of tells visits) { lost = λ number. counts_by number (room == number) refl i; told = λ number. None };
   }
 
 rises : (was count : ℕ) → was ≤ 18446744073709551615 → count ≡ min (was + 1) 18446744073709551615 → CountHasRisen was count
@@ -52,3 +53,20 @@ take_is_never_lost tells before after room h = vector_never_risen tells before a
 pub none_is_lost : {V : Type 0} (tells : V → RoomView) (before after : Visits V) (room : ℕ) (P : Type 0) (result : Option V) → IfNone result (IsLost (view_of tells before) (view_of tells after) room) → IfNone result P
 none_is_lost tells before after room P None h = absurd (take_is_never_lost tells before after room h)
 none_is_lost tells before after room P (Some value) h = tt
+
+-- ---- takes that aren't lost
+
+-- the rooms tell less of what they hand out
+pub some_is_handed : {V : Type 0} (tells : V → RoomView) (rooms rooms_now : Visits V) (lost : List ℕ) (room : ℕ) (result : Option V) → rooms_now ≡ rooms → IfSome result (λ value. IsHandedOut tells (view_of tells rooms_now) room value)
+    → IfSome result (λ value. IsHandedOut tells (lossy_view tells rooms lost) room value)
+some_is_handed tells rooms rooms_now lost room None same h = tt
+some_is_handed tells rooms rooms_now lost room (Some value) same h =
+    let handed : IsHandedOut tells (view_of tells rooms) room value = subst (λ r. IsHandedOut tells (view_of tells r) room value) same h in
+    record { suits = handed.suits; live = handed.live; mark = handed.mark; told = tt }
+
+-- what is left is told no more than what was handed out
+pub left_untold : {V : Type 0} (tells : V → RoomView) (rooms rooms_now : Visits V) (lost : List ℕ) (room : ℕ) (value : V) → view_of tells rooms_now ≡ left tells (view_of tells rooms) room value
+    → lossy_view tells rooms_now lost ≡ left tells (lossy_view tells rooms lost) room value
+left_untold {V} tells rooms rooms_now lost room value h =
+    ap (λ (v : RoomsView V). record v { lost = λ number. slice_index_or lost number 0; told = λ number. None }) h
+    ∙ (λ i. record (left tells (lossy_view tells rooms lost) room value) { told = sym (put_itself (λ number. None) room None refl) i })

@@ -1,5 +1,5 @@
-//! What one session does where the rooms that it needs are held, over cells: each event worked by hand from what a turn
-//! does in each state.
+//! What one session does where the rooms that it needs are held, and tell no values, over cells: each event worked by
+//! hand from what a turn does in each state.
 
 ghost use Rattle.std.specs.Prelude.{◌≡◌, false, IfOk};
 ghost use Rattle.commit_book.specs.SerialRuns.{operator_of};

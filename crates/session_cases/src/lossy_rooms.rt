@@ -6,7 +6,7 @@ use gx_base::{NoMemory, Room};
 use rooms::{Rooms, Vacant, VecRooms};
 use std::alloc::Global;
 
-/// Rooms in a vector, some of which another caller seems to hold: the takes that a list says are lost.
+/// Rooms in a vector, some of which another caller seems to hold: the takes that a list says are lost. They tell no values.
 #[derive(Drop)]
 pub struct LossyRooms<V: Vacant> {
     rooms: VecRooms<V>,
