@@ -197,12 +197,12 @@ fn drawn_network(alloc: Global, seed: u64, nodes: u64, degree: u64) -> Result<St
 
 /// What stands in front of a report: the commits, of which only the items are told, and then the value.
 #[derive(Drop)]
-struct Printed {
+struct Front {
     order: Vec<Commit>,
     value: i64,
 }
 
-fn printed(alloc: Global, written: &[u8]) -> Result<Printed, Fail> {
+fn front_of(alloc: Global, written: &[u8]) -> Result<Front, Fail> {
     let mut order = Vec::new(alloc);
     let mut rest = written;
     while !rest.is_empty() {
@@ -210,7 +210,7 @@ fn printed(alloc: Global, written: &[u8]) -> Result<Printed, Fail> {
         rest = more;
         match line.strip_prefix(b"c i ".as_slice()) {
             Some(digits) => order.push(commit_of(printed_number(digits)?))?,
-            None => return Ok(Printed {
+            None => return Ok(Front {
                 order,
                 value: printed_value(line)?,
             }),
@@ -273,7 +273,7 @@ fn serial_value(alloc: Global, text: &str, words: &[&str]) -> Result<Option<i64>
     let Ok(net) = read_max(alloc, text.as_bytes()) else {
         return Err("no network".into());
     };
-    let front = printed(alloc, &run.written)?;
+    let front = front_of(alloc, &run.written)?;
     if run.status == Status::Ok && gives(alloc, &net, &front.order, &run.written)? {
         Ok(Some(front.value))
     } else {
