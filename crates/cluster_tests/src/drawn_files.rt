@@ -1,6 +1,8 @@
 //! Drawn files, whose bodies run in drawn orders: the order that is printed, done by a list of points that is walked,
 //! gives what was printed, line by line.
 
+ghost use Rattle.std.specs.Prelude.{◌<◌};
+
 use crate::list_of_clusters::Clusters;
 use clustering::{Chain, Cloud, read_points, report, start};
 use commit_book::{BodyLog, Commit, Worklist, commit_item};
@@ -18,7 +20,9 @@ fn drawn(seed: u64, k: u64, size: u64) -> i64
 }
 
 /// Far apart, on a small grid, on a line, in one place, and as far apart as may be.
-fn drawn_place(seed: u64, k: u64) -> (i64, i64) {
+fn drawn_place(seed: u64, k: u64) -> (i64, i64)
+    requires { k < 1000 }
+{
     match seed % 5 {
         0 => (
             drawn(seed, 2 * k, 1_000_000),
@@ -28,8 +32,8 @@ fn drawn_place(seed: u64, k: u64) -> (i64, i64) {
         2 => (drawn(seed, 2 * k, 50), 7),
         3 => (-4, 11),
         _ => (
-            drawn(seed, 2 * k, 1) * 1_000_000_000,
-            drawn(seed, 2 * k + 1, 1) * 1_000_000_000,
+            drawn(seed, 2 * k, 1).wrapping_mul(1_000_000_000),
+            drawn(seed, 2 * k + 1, 1).wrapping_mul(1_000_000_000),
         ),
     }
 }
@@ -134,7 +138,7 @@ fn gives(alloc: Global, places: &[(i64, i64)], written: &[u8]) -> Result<bool, F
             return Ok(false);
         }
     }
-    let text = clusters.text(alloc, &order, places.len())?;
+    let text = clusters.text(alloc, &order, places.len() as i64)?;
     Ok(clusters.is_nothing_ready() && text.as_slice() == written)
 }
 

@@ -206,17 +206,17 @@ impl Clusters {
     }
 
     /// The report after commits in this order, of so many points.
-    pub fn text(&self, alloc: Global, order: &[i64], count: usize) -> Result<Vec<u8>, Fail> {
+    pub fn text(&self, alloc: Global, order: &[i64], count: i64) -> Result<Vec<u8>, Fail> {
         let mut text = Vec::new(alloc);
         for id in order {
             let line = format!(in alloc; "i {id}\n")?;
             text.extend_from_slice(line.as_bytes())?;
         }
         for id in 0..count {
-            self.put_if_gone(alloc, &mut text, id as i64)?;
+            self.put_if_gone(alloc, &mut text, id)?;
         }
         for id in 0..count {
-            self.put_if_left(alloc, &mut text, id as i64)?;
+            self.put_if_left(alloc, &mut text, id)?;
         }
         Ok(text)
     }
