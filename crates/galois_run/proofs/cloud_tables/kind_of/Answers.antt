@@ -20,6 +20,6 @@ returns-clause-bad_table c = λ why.
     elim c.match-read_table.branch [
       | in-Ok w ↦ subst (λ (r : Result Kind RunFault). FaultsWhere (IsBadText c.args.conditions.now why) (BadTable why) r) (sym w.result-is) (read_text c.args.conditions.now why w.in-Ok.kind w.in-Ok.ensures.only_fault)
       | in-Err w ↦
-        subst (λ (r : Result Kind RunFault). FaultsWhere (IsBadText c.args.conditions.now why) (BadTable why) r) (sym (w.result-is ∙ ap (λ (f : RunFault). Err f) w.bad_text.ensures))
-        (refused_text c.args.conditions.now w.in-Err.fault why w.in-Err.ensures.fault w.in-Err.ensures.only_fault)
+          subst (λ (r : Result Kind RunFault). FaultsWhere (IsBadText c.args.conditions.now why) (BadTable why) r) (sym (w.result-is ∙ ap (λ (f : RunFault). Err f) w.bad_text.ensures))
+          (refused_text c.args.conditions.now w.in-Err.fault why w.in-Err.ensures.fault w.in-Err.ensures.only_fault)
     ]

@@ -13,14 +13,14 @@ returns-in-Points-clause-bad_table c = λ why. of_points c.args.conditions.now c
 pub returns-in_default : goal.returns-in_default
 returns-in_default c = record {
   tables = of_answer
-    (λ (tables : CloudTables). AreRunTables Precise None (Some c.args.conditions.now) tables.points tables.cells)
-    (λ (tables : CloudTables). AreChosen Precise (Some c.args.conditions.now) tables.points tables.cells)
-    c.tables_of-in_default.result (λ tables are. inr are) c.tables_of-in_default.ensures.tables;
+      (λ (tables : CloudTables). AreRunTables Precise None (Some c.args.conditions.now) tables.points tables.cells)
+      (λ (tables : CloudTables). AreChosen Precise (Some c.args.conditions.now) tables.points tables.cells)
+      c.tables_of-in_default.result (λ tables are. inr are) c.tables_of-in_default.ensures.tables;
   points = c.tables_of-in_default.ensures.points;
   cells = c.tables_of-in_default.ensures.cells;
   bad_table = λ why.
-    let are_cells : c.in-Ok.kind ≡ Cells = elim c.in-Ok.ensures.wanted [ inl e ↦ absurd (c.in_default.not-Points e) | inr e ↦ e ] in
-    of_cells c.args.conditions.now c.tables_of-in_default.result why (subst (IsTextOf c.args.conditions.now) are_cells c.in-Ok.ensures.kind) (c.tables_of-in_default.ensures.bad_table why);
+      let are_cells : c.in-Ok.kind ≡ Cells = elim c.in-Ok.ensures.wanted [ inl e ↦ absurd (c.in_default.not-Points e) | inr e ↦ e ] in
+      of_cells c.args.conditions.now c.tables_of-in_default.result why (subst (IsTextOf c.args.conditions.now) are_cells c.in-Ok.ensures.kind) (c.tables_of-in_default.ensures.bad_table why);
   no_others = c.tables_of-in_default.ensures.no_others;
 }
 
