@@ -292,7 +292,7 @@ fn help_and_version(rt: HostRuntime) -> Result<(), Fail> {
             alloc,
             "--help",
             first,
-            "\n  galois flow examples/conflict.max --virtual 2 --turns 22 --trace on\n"
+            "\n  galois cluster examples/square.points\n"
         )?
     );
     let name = "galois 0.1\n";
