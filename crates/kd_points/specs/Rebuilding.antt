@@ -1,12 +1,15 @@
 -- A tree that is made anew, out of a list of points.
 use Rattle.std.specs.Prelude.{◌≡◌, ◌*◌, ◌≤◌, ℤ, true, is_some, Some, List, ◌⊎◌}
-use Rattle.std.specs.List.{Contains}
+use Rattle.std.specs.List.{Contains, IsDistinct}
+use Rattle.std.specs.Ordering.{int_eq}
 use Rattle.gx_base.specs.declared.calls.Spot.{Spot}
 use Rattle.gx_base.specs.PointKind.{spot_at}
 use Rattle.slab.specs.Slab.{slab_len}
 use Rattle.kd_points.specs.declared.rebuild.TheConstants.{LEAST_REBUILT}
+use Rattle.kd_points.specs.declared.nodes.Seat.{Seat}
 use Rattle.kd_points.specs.declared.tree.Tree.{Tree}
-use Rattle.kd_points.specs.TreeStates.{tree_state, dead_nodes, IsSound}
+use Rattle.kd_points.specs.Trees.{IsSeat}
+use Rattle.kd_points.specs.TreeStates.{node_at, tree_state, dead_nodes, IsSound, NoPoint}
 
 -- this is a point of the tree
 abbrev pub IsPointOf : Tree → Spot → Type 0
@@ -15,6 +18,16 @@ IsPointOf tree r = spot_at (tree_state tree) r.id ≡ Some r
 -- some point of the tree has this id
 abbrev pub HasPoint : Tree → ℤ → Type 0
 HasPoint tree id = is_some (spot_at (tree_state tree) id) ≡ true
+
+-- the spots have an id each
+abbrev pub HaveOwnIds : List Spot → Type 0
+HaveOwnIds spots = IsDistinct (λ p q. int_eq p.id q.id) spots
+
+-- the spots may all be put in at the seat: no id has a point yet, or stands twice
+pub record AreNew (tree : Tree) (spots : List Spot) (seat : Seat) : Type 0 where
+  pub own : HaveOwnIds spots
+  pub free : (r : Spot) → Contains spots r → NoPoint tree r.id
+  pub seated : (r : Spot) → Contains spots r → IsSeat (node_at tree) tree.root r seat
 
 -- the points of the new tree are those of the old one and of these; each id that had a point, or is one of these, has one;
 -- and no more nodes are dead

@@ -2,15 +2,18 @@
 use Rattle.std.specs.Prelude.{◌≡◌, ℕ, ◌+◌, ◌-◌, ℤ, Bool, true, false, cond, ◌&&◌, ◌||◌, Option, Some, None, List, [], ◌∷◌, if◌then◌else◌}
 use Rattle.std.specs.FinMap as map
 use Rattle.std.specs.Map.{lookup}
-use Rattle.std.specs.Ordering.{int_eq}
+use Rattle.std.specs.Ordering.{int_eq, is_lt}
 use Rattle.gx_base.specs.declared.calls.Spot.{Spot}
 use Rattle.gx_base.specs.declared.kinds.Kind.TheVariants.{Points}
 use Rattle.gx_base.specs.Kinds.{kind_number}
 use Rattle.gx_base.specs.States.{State, row_cmp, rows_put, row_at}
 use Rattle.slab.specs.Slab.{get, slab_len, Updates}
+use Rattle.kd_points.specs.declared.nodes.Axis.{Axis}
 use Rattle.kd_points.specs.declared.nodes.Node.{Node}
+use Rattle.kd_points.specs.declared.nodes.Seat.{Seat}
+use Rattle.kd_points.specs.declared.nodes.Seat.TheVariants.{Free}
 use Rattle.kd_points.specs.declared.tree.Tree.{Tree}
-use Rattle.kd_points.specs.Trees.{Nodes, is_point_of, IsTree}
+use Rattle.kd_points.specs.Trees.{Nodes, spot_cmp, is_point_of, IsTree, IsSeat}
 
 -- the node of a key
 abbrev pub node_at : Tree → Nodes
@@ -86,6 +89,16 @@ pub record IsPlanted (old new : Tree) (key : ℕ) (node : Node) : Type 0 where
   pub keys : (id : ℤ) → key_of new id ≡ cond (int_eq node.spot.id id) (Some key) (key_of old id)
   pub root : new.root ≡ old.root
   pub live : new.live ≡ old.live
+
+-- a spot that belongs on another free side still belongs there
+abbrev pub SeatsStay : Tree → Tree → Seat → Type 0
+SeatsStay old new seat = (r : Spot) (j : ℕ) (left : Bool) → IsSeat (node_at old) old.root r (Free j left) → (Free j left ≡ seat → ⊥) → IsSeat (node_at new) new.root r (Free j left)
+
+-- a new node has this key: what belonged at its seat belongs on one of its sides now
+pub record IsBelow (old new : Tree) (seat : Seat) (spot : Spot) (axis : Axis) (key : ℕ) : Type 0 where
+  pub vacant : node_at old key ≡ None
+  pub below : (r : Spot) → IsSeat (node_at old) old.root r seat → IsSeat (node_at new) new.root r (Free key (is_lt (spot_cmp axis r spot)))
+  pub beside : SeatsStay old new seat
 
 -- the tree has no nodes
 pub record IsBlank (tree : Tree) : Type 0 where

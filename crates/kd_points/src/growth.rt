@@ -4,7 +4,7 @@ ghost use Rattle.gx_base.specs.States.{with_row};
 ghost use Rattle.slab.specs.Slab.{slab_len, Updates};
 ghost use Rattle.kd_points.specs.Trees as trees;
 ghost use Rattle.kd_points.specs.declared.nodes.Node.{Node};
-ghost use Rattle.kd_points.specs.TreeStates.{node_at, key_of, place, tree_state, count_of, dead_nodes, IsSound, IsAlike, IsPlanted, has_node, NoPoint, KeepsNodes};
+ghost use Rattle.kd_points.specs.TreeStates.{node_at, key_of, place, tree_state, count_of, dead_nodes, IsSound, IsAlike, IsPlanted, IsBelow, has_node, NoPoint, KeepsNodes};
 
 use crate::nodes::{Axis, Node, Seat, crossed, leaf, link};
 use crate::tree::Tree;
@@ -85,7 +85,6 @@ impl Tree {
         ensures sound { IsSound self.new }
         ensures state { tree_state self.new ≡ with_row (tree_state self.old) (0, spot.id) (Some (place spot)) }
         ensures kept { KeepsNodes self.old self.new }
-        ensures dead { dead_nodes self.new ≤ dead_nodes self.old }
     {
         self.mark(key, true);
         self.number(spot.id, key);
@@ -118,37 +117,30 @@ impl Tree {
         Ok(key)
     }
 
-    /// Puts a new node on the free side of another.
-    fn hang(
-        &mut self,
-        spot: Spot,
-        axis: Option<Axis>,
-        at: usize,
-        left: bool,
-    ) -> Result<(), NoMemory>
+    /// Puts a new node on the free side of another, and answers its key.
+    fn hang(&mut self, spot: Spot, axis: Axis, at: usize, left: bool) -> Result<usize, NoMemory>
         requires sound { IsSound self.old }
         requires free { NoPoint self.old spot.id }
         requires seat { trees.IsSeat (node_at self.old) self.old.root spot (Seat.Free at left) }
-        requires new { has_node self.old spot ≡ false }
         ensures sound { IsSound self.new }
         ensures ok { OnOk result (tree_state self.new ≡ with_row (tree_state self.old) (0, spot.id) (Some (place spot))) }
         ensures room { OnOk result (has_node self.new spot ≡ true) }
         ensures dead { OnOk result (dead_nodes self.new ≤ dead_nodes self.old) }
+        ensures below { IfOk result (IsBelow self.old self.new (Seat.Free at left) spot axis) }
         ensures err { OnErr result (tree_state self.new ≡ tree_state self.old) }
         ensures kept { KeepsNodes self.old self.new }
     {
         let parent = self.node_in(at);
-        let axis = axis.unwrap_or(crossed(parent.axis));
         let nodes = self.nodes.len();
         prove!(parent.depth < nodes);
         let key = self.plant(leaf(axis, spot, parent.depth + 1))?;
         self.rewrite(at, link(parent, left, key));
         self.count_one();
-        Ok(())
+        Ok(key)
     }
 
-    /// Puts the first node in.
-    fn found_root(&mut self, spot: Spot, axis: Axis) -> Result<(), NoMemory>
+    /// Puts the first node in, and answers its key.
+    fn found_root(&mut self, spot: Spot, axis: Axis) -> Result<usize, NoMemory>
         requires sound { IsSound self.old }
         requires free { NoPoint self.old spot.id }
         requires empty { self.old.root ≡ None }
@@ -156,33 +148,62 @@ impl Tree {
         ensures ok { OnOk result (tree_state self.new ≡ with_row (tree_state self.old) (0, spot.id) (Some (place spot))) }
         ensures room { OnOk result (has_node self.new spot ≡ true) }
         ensures dead { OnOk result (dead_nodes self.new ≤ dead_nodes self.old) }
+        ensures below { IfOk result (IsBelow self.old self.new Seat.Empty spot axis) }
         ensures err { OnErr result (tree_state self.new ≡ tree_state self.old) }
         ensures kept { KeepsNodes self.old self.new }
     {
         let key = self.plant(leaf(axis, spot, 0))?;
         self.root = Some(key);
         self.count_one();
-        Ok(())
+        Ok(key)
+    }
+
+    /// Puts a new node in where its spot belongs, and answers its key.
+    pub(crate) fn insert_at(
+        &mut self,
+        spot: Spot,
+        axis: Axis,
+        seat: Seat,
+    ) -> Result<usize, NoMemory>
+        requires sound { IsSound self.old }
+        requires free { NoPoint self.old spot.id }
+        requires seat { trees.IsSeat (node_at self.old) self.old.root spot seat }
+        requires open { trees.is_found seat ≡ false }
+        ensures sound { IsSound self.new }
+        ensures ok { OnOk result (tree_state self.new ≡ with_row (tree_state self.old) (0, spot.id) (Some (place spot))) }
+        ensures room { OnOk result (has_node self.new spot ≡ true) }
+        ensures dead { OnOk result (dead_nodes self.new ≤ dead_nodes self.old) }
+        ensures below { IfOk result (IsBelow self.old self.new seat spot axis) }
+        ensures err { OnErr result (tree_state self.new ≡ tree_state self.old) }
+        ensures kept { KeepsNodes self.old self.new }
+    {
+        match seat {
+            Seat::Found(_) => unreachable!(),
+            Seat::Free(at, left) => self.hang(spot, axis, at, left),
+            Seat::Empty => self.found_root(spot, axis),
+        }
     }
 
     /// Puts a point in, whose number has none.
-    pub fn insert(&mut self, spot: Spot, axis: Option<Axis>) -> Result<(), NoMemory>
+    pub fn insert(&mut self, spot: Spot) -> Result<(), NoMemory>
         requires sound { IsSound self.old }
         requires free { NoPoint self.old spot.id }
         ensures sound { IsSound self.new }
         ensures ok { OnOk result (tree_state self.new ≡ with_row (tree_state self.old) (0, spot.id) (Some (place spot))) }
         ensures room { OnOk result (has_node self.new spot ≡ true) }
-        ensures dead { OnOk result (dead_nodes self.new ≤ dead_nodes self.old) }
         ensures err { OnErr result (tree_state self.new ≡ tree_state self.old) }
         ensures kept { KeepsNodes self.old self.new }
     {
         match self.seek(spot) {
-            Seat::Found(key) => {
-                self.wake(key, spot);
-                Ok(())
+            Seat::Found(key) => self.wake(key, spot),
+            Seat::Free(at, left) => {
+                let axis = crossed(self.node_in(at).axis);
+                self.hang(spot, axis, at, left)?;
             }
-            Seat::Free(at, left) => self.hang(spot, axis, at, left),
-            Seat::Empty => self.found_root(spot, axis.unwrap_or(Axis::X)),
+            Seat::Empty => {
+                self.found_root(spot, Axis::X)?;
+            }
         }
+        Ok(())
     }
 }

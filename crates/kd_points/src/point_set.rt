@@ -97,7 +97,7 @@ impl KdPoints {
         if !self.may_be_added(call) {
             return Ok(yes_or_no(false));
         }
-        self.tree.insert(spot_of_call(call), None)?;
+        self.tree.insert(spot_of_call(call))?;
         Ok(yes_or_no(true))
     }
 

@@ -1,20 +1,18 @@
-ghost use Rattle.std.specs.Prelude.{◌≡◌, ◌∷◌, ◌≤◌, ◌*◌, ◌↔◌, ◌&&◌, ◌||◌, [], nat_lt, nat_le, length, IfOk, OnOk};
+ghost use Rattle.std.specs.Prelude.{◌≡◌, ◌∷◌, ◌≤◌, ◌*◌, ◌↔◌, ◌&&◌, ◌||◌, [], nat_lt, nat_le, length, false, IfOk, OnOk};
 ghost use Rattle.std.specs.List.{Contains};
 ghost use Rattle.gx_base.specs.declared.calls.Spot.{Spot};
 ghost use Rattle.slab.specs.Slab.{slab_len};
-ghost use Rattle.kd_points.specs.TreeStates.{tree_state, dead_nodes, IsSound};
-ghost use Rattle.kd_points.specs.Rebuilding.{IsPointOf, Gathers, IsRebuilt};
+ghost use Rattle.kd_points.specs.Trees.{is_found};
+ghost use Rattle.kd_points.specs.TreeStates.{tree_state, dead_nodes, IsSound, SeatsStay};
+ghost use Rattle.kd_points.specs.Rebuilding.{IsPointOf, HaveOwnIds, AreNew, Gathers, IsRebuilt};
 
-use crate::nodes::{Axis, order};
+use crate::nodes::{Axis, Seat, order};
 use crate::tree::Tree;
 use gx_base::{NoMemory, Spot};
 use std::alloc::Global;
 
 /// A tree of fewer nodes isn't rebuilt: it takes up little.
 pub const LEAST_REBUILT: usize = 64;
-
-/// So few points are put in as they come: that makes a tree nearly as low, and halving them takes longer.
-const FEW: usize = 8;
 
 /// The axis along which spots are spread most widely. Which it is matters for speed alone.
 fn widest(spots: &[Spot]) -> Axis {
@@ -36,57 +34,35 @@ fn widest(spots: &[Spot]) -> Axis {
 }
 
 impl Tree {
-    /// Puts a spot in, where its number has no point yet.
-    fn insert_new(&mut self, spot: Spot, axis: Option<Axis>) -> Result<(), NoMemory>
-        requires { IsSound self.old }
-        ensures sound { IsSound self.new }
-        ensures ok { OnOk result (Gathers self.old self.new (spot ∷ [])) }
-    {
-        match self.at(spot.id) {
-            Some(_) => Ok(()),
-            None => self.insert(spot, axis),
-        }
-    }
-
-    /// Puts spots in, one after another.
-    fn insert_few(&mut self, spots: &[Spot]) -> Result<(), NoMemory>
-        requires { IsSound self.old }
-        ensures sound { IsSound self.new }
-        ensures ok { OnOk result (Gathers self.old self.new spots.now) }
-    {
-        match spots.split_first() {
-            None => Ok(()),
-            Some((spot, rest)) => {
-                self.insert_new(*spot, None)?;
-                self.insert_few(rest)
-            }
-        }
-    }
-
-    /// Puts spots in by halves, so that about as many stand on either side of each node.
-    fn insert_all(&mut self, spots: &mut [Spot]) -> Result<(), NoMemory>
-        requires { IsSound self.old }
+    /// Puts spots in by halves, so that about as many stand on either side of each node. They all belong at the same
+    /// seat, so no way is walked from the root.
+    fn insert_all(&mut self, spots: &mut [Spot], seat: Seat) -> Result<(), NoMemory>
+        requires sound { IsSound self.old }
+        requires open { is_found seat ≡ false }
+        requires new { AreNew self.old spots.old seat }
         ensures sound { IsSound self.new }
         ensures ok { OnOk result (Gathers self.old self.new spots.old) }
+        ensures beside { OnOk result (SeatsStay self.old self.new seat) }
     {
         let count = spots.len();
-        if count <= FEW {
-            return self.insert_few(spots);
+        if count == 0 {
+            return Ok(());
         }
         let axis = widest(spots);
         let (front, middle, back) = spots.select_nth_unstable_by(
             count / 2,
             |p: &Spot, q: &Spot| order(axis, *p, *q),
         );
-        self.insert_new(*middle, Some(axis))?;
-        self.insert_all(front)?;
-        self.insert_all(back)
+        let key = self.insert_at(*middle, axis, seat)?;
+        self.insert_all(front, Seat::Free(key, true))?;
+        self.insert_all(back, Seat::Free(key, false))
     }
 
     /// The points.
     fn points(&self, alloc: Global) -> Result<Vec<Spot>, NoMemory>
         requires { IsSound self.now }
-        ensures { IfOk result (λ spots. (r : Spot) → Contains spots.items r ↔ IsPointOf self.now r) }
+        ensures every { IfOk result (λ spots. (r : Spot) → Contains spots.items r ↔ IsPointOf self.now r) }
+        ensures own { IfOk result (λ spots. HaveOwnIds spots.items) }
     {
         let mut spots = Vec::with_capacity(alloc, self.count())?;
         for (key, node) in self.nodes.iter() {
@@ -104,7 +80,7 @@ impl Tree {
     {
         let mut spots = self.points(alloc)?;
         let mut tree = Tree::with_capacity(alloc, spots.len())?;
-        tree.insert_all(&mut spots)?;
+        tree.insert_all(&mut spots, Seat::Empty)?;
         tree.settle();
         Ok(tree)
     }

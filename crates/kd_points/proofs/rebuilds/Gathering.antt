@@ -4,11 +4,11 @@ use Rattle.std.proofs.Common.{sym, ◌∙◌, ap, subst, arith, inl, inr, length
 use Rattle.std.specs.FinMap as map
 use Rattle.std.specs.List.{Contains}
 use Rattle.std.specs.List.Sorted.{IsPermutation}
-use Rattle.std.proofs.lemmas.List.Sorted.{Contains-permutation, IsPermutation-sym, IsPermutation-refl, length_permutation}
+use Rattle.std.proofs.lemmas.List.Sorted.{Contains-permutation, IsPermutation-sym, length_permutation}
 use Rattle.std.proofs.lemmas.List.Elements.{Contains-append_left, Contains-append_right, Contains-append_cases}
 use Rattle.std.specs.Ordering.{int_eq}
-use Rattle.slab.specs.Slab.{slab_len, entries}
-use Rattle.slab.proofs.SlabLemmas.{Contains-cons, Contains-cons_cases, Contains-entries}
+use Rattle.slab.specs.Slab.{slab_len}
+use Rattle.slab.proofs.SlabLemmas.{Contains-cons, Contains-cons_cases}
 use Rattle.gx_base.specs.declared.calls.Spot.{Spot}
 use Rattle.gx_base.specs.States.{row_cmp, row_at, with_row}
 use Rattle.gx_base.specs.PointKind.{spot_of, spot_at}
@@ -16,12 +16,10 @@ use Rattle.kd_points.specs.declared.nodes.Node.{Node}
 use Rattle.kd_points.specs.declared.tree.Tree.{Tree}
 use Rattle.kd_points.specs.NearestPoints.{spot_at-with}
 use Rattle.kd_points.specs.Trees.{Nodes, is_point_of}
-use Rattle.kd_points.proofs.trees.LiveNodes.{IsNodeOf, IsLive}
 use Rattle.kd_points.specs.TreeStates.{node_at, key_of, place, row_of_node, rows_of, tree_state, dead_nodes, count_of, IsSound, IsBlank, NoPoint}
 use Rattle.kd_points.specs.Rebuilding.{IsPointOf, HasPoint, Gathers, IsRebuilt}
-use Rattle.kd_points.proofs.states.Basics.{none_some, some_is, same_int, int_eq-of, not_both}
+use Rattle.kd_points.proofs.states.Basics.{none_some, some_is, same_int, int_eq-of}
 use Rattle.kd_points.proofs.states.StateRows.{with_rows, row_found, get-rows_of, rows_of-same}
-use Rattle.kd_points.proofs.searches.Ends.{live_there, there_live}
 
 -- a row is the place of the point
 abbrev pub place_row : Option Spot → Option (List ℤ)
@@ -48,11 +46,11 @@ pub no_spot : (tree : Tree) (id : ℤ) (found : Option Spot) → found ≡ spot_
 no_spot tree id found e f = row-spot tree id ∙ ap place_row (sym e ∙ f)
 
 -- a list of one
-contains_one : (s r : Spot) → Contains (s ∷ []) r → s ≡ r
+pub contains_one : (s r : Spot) → Contains (s ∷ []) r → s ≡ r
 contains_one s r (zero, b, e) = e
 contains_one s r (suc k, b, e) = absurd (omega arith)
 
-one_of : (s : Spot) → Contains (s ∷ []) s
+pub one_of : (s : Spot) → Contains (s ∷ []) s
 one_of s = (zero, omega arith, refl)
 
 -- one point more
@@ -116,7 +114,7 @@ gathers_parts a b c d spots front back middle p f g h = record { none_else = fro
     less = let x : dead_nodes b ≤ dead_nodes a = f.dead in let y : dead_nodes c ≤ dead_nodes b = g.dead in let z : dead_nodes d ≤ dead_nodes c = h.dead in omega arith
 
 -- a tree without nodes has no points
-blank_row : (tree : Tree) (id : ℤ) → IsBlank tree → row_at (tree_state tree) (0, id) ≡ None
+pub blank_row : (tree : Tree) (id : ℤ) → IsBlank tree → row_at (tree_state tree) (0, id) ≡ None
 blank_row tree id b = ap (λ es. map.get (rows_of (node_at tree) es) (0, id)) b.entries ∙ get-rows_of (node_at tree) [] id
 
 pub blank_spot : (tree : Tree) (id : ℤ) → IsBlank tree → spot_at (tree_state tree) id ≡ None
@@ -127,7 +125,7 @@ same_state : (old new : Tree) → ((id : ℤ) → spot_at (tree_state new) id �
 same_state old new h = ap with_rows (rows_of-same (node_at old) (node_at new) old.numbers.entries new.numbers.entries (λ id.
     sym (get-rows_of (node_at new) new.numbers.entries id) ∙ row-spot new id ∙ ap place_row (h id) ∙ sym (row-spot old id) ∙ get-rows_of (node_at old) old.numbers.entries id))
 
-spot_id : (tree : Tree) (id : ℤ) (r : Spot) → spot_at (tree_state tree) id ≡ Some r → r.id ≡ id
+pub spot_id : (tree : Tree) (id : ℤ) (r : Spot) → spot_at (tree_state tree) id ≡ Some r → r.id ≡ id
 spot_id tree id r e = by_row (row_at (tree_state tree) (0, id)) e
   where
     by_row : (row : Option (List ℤ)) → spot_of id row ≡ Some r → r.id ≡ id
@@ -177,10 +175,11 @@ blank_sound tree b = record {
     nothing : (i : ℕ) → node_at tree i ≡ None
     nothing i = ap (λ slots. slice_index_or slots i None) b.slots
 
-pub gathers_one_ok : {T E : Type 0} (result : Result T E) (old new : Tree) (spot : Spot) → OnOk result (tree_state new ≡ with_row (tree_state old) (0, spot.id) (Some (place spot))) → OnOk result (dead_nodes new ≤ dead_nodes old)
-    → OnOk result (Gathers old new (spot ∷ []))
-gathers_one_ok (Ok x) old new spot e d = gathers_one old new spot e d
-gathers_one_ok (Err x) old new spot e d = tt
+pub front_less : (spots front back : List Spot) (middle : Spot) → IsPermutation spots (front ++ middle ∷ back) → length front < length spots
+front_less spots front back middle p =
+    let e : length (front ++ middle ∷ back) ≡ length spots = length_permutation spots (front ++ middle ∷ back) p in
+    let f : length (front ++ middle ∷ back) ≡ length front + length (middle ∷ back) = length-append front (middle ∷ back) in
+    omega arith
 
 pub back_less : (spots front back : List Spot) (middle : Spot) → IsPermutation spots (front ++ middle ∷ back) → length back < length spots
 back_less spots front back middle p =
@@ -193,16 +192,6 @@ pub gathers_parts_ok : {T E : Type 0} (result : Result T E) (a b c d : Tree) (sp
 gathers_parts_ok (Ok x) a b c d spots front back middle p f g h = gathers_parts a b c d spots front back middle p f g h
 gathers_parts_ok (Err x) a b c d spots front back middle p f g h = tt
 
--- no points more
-pub gathers_none : (old : Tree) (spots : List Spot) → length spots ≡ 0 → Gathers old old spots
-gathers_none old [] e = record { none_else = λ r h. inl h; stay = λ id h. h; all = λ r h. absurd (let b : h.0 < 0 = h.1 in omega arith); dead = omega arith }
-gathers_none old (s ∷ spots) e = absurd (omega arith)
-
--- one point, and then more
-pub gathers_next_ok : {T E : Type 0} (result : Result T E) (a b d : Tree) (spots rest : List Spot) (first : Spot) → spots ≡ first ∷ rest → Gathers a b (first ∷ []) → OnOk result (Gathers b d rest) → OnOk result (Gathers a d spots)
-gathers_next_ok (Ok x) a b d spots rest first e f g = gathers_parts a b b d spots [] rest first (subst (λ xs. IsPermutation xs (first ∷ rest)) (sym e) (IsPermutation-refl (first ∷ rest))) f (gathers_none b [] refl) g
-gathers_next_ok (Err x) a b d spots rest first e f g = tt
-
 blank_dead : (tree : Tree) → IsBlank tree → dead_nodes tree ≡ 0
 blank_dead tree b = let e : slab_len tree.nodes ≡ 0 = ap (count_by (is_some {T = Node})) b.slots in omega arith
 
@@ -213,67 +202,6 @@ rebuilt_from old blank mid new spots given b p e s g f = subst (IsRebuilt old) (
   none_dead = let d : dead_nodes mid ≤ dead_nodes blank = g.dead in let z : dead_nodes blank ≡ 0 = blank_dead blank b in omega arith;
   none_grown = refl;
 })
-
--- the points that a walk over the nodes gathers
-pub record Walked (tree : Tree) (spots : List Spot) (left : List (ℕ × Node)) : Type 0 where
-  pub every : (key : ℕ) (n : Node) → node_at tree key ≡ Some n → n.live ≡ true → Contains spots n.spot ⊎ Contains left (key, n)
-  pub there : (key : ℕ) (n : Node) → Contains left (key, n) → node_at tree key ≡ Some n
-  pub only : (r : Spot) → Contains spots r → IsLive (node_at tree) r
-
-pub walk_begun : (tree : Tree) (spots : List Spot) (left : List (ℕ × Node)) → spots ≡ [] → left ≡ entries tree.nodes → Walked tree spots left
-walk_begun tree spots left e f = record {
-  every = λ key n g l. inr (subst (λ xs. Contains xs (key, n)) (sym f) ((Contains-entries tree.nodes key n).1 g));
-  there = λ key n h. (Contains-entries tree.nodes key n).0 (subst (λ xs. Contains xs (key, n)) f h);
-  only = λ r h. absurd (let h' : Contains [] r = subst (λ xs. Contains xs r) e h in let b : h'.0 < 0 = h'.1 in omega arith);
-}
-
-module _ (tree : Tree) (spots : List Spot) (left rest : List (ℕ × Node)) (key : ℕ) (n : Node) (e : left ≡ (key, n) ∷ rest) (w : Walked tree spots left) where
-  here_is : node_at tree key ≡ Some n
-  here_is = w.there key n (subst (λ xs. Contains xs (key, n)) (sym e) (zero, omega arith, refl))
-
-  rest_there : (k : ℕ) (m : Node) → Contains rest (k, m) → node_at tree k ≡ Some m
-  rest_there k m h = w.there k m (subst (λ xs. Contains xs (k, m)) (sym e) (Contains-cons (key, n) (k, m) rest h))
-
-  pub walk_taken : (more : List Spot) → n.live ≡ true → more ≡ spots ++ n.spot ∷ [] → Walked tree more rest
-  walk_taken more l f = record { every = λ k m g h. by_every k m (w.every k m g h); there = rest_there; only = λ r h. by_only r (Contains-append_cases spots (n.spot ∷ []) r (subst (λ xs. Contains xs r) f h)) }
-    where
-      by_left : (k : ℕ) (m : Node) → (◌≡◌ {A = ℕ × Node} (key, n) (k, m)) ⊎ Contains rest (k, m) → Contains more m.spot ⊎ Contains rest (k, m)
-      by_left k m (inl p) =
-          inl (subst (λ xs. Contains xs m.spot) (sym f) (Contains-append_right spots (n.spot ∷ []) m.spot (subst (Contains (n.spot ∷ [])) (ap (λ (x : ℕ × Node). x.1.spot) p) (one_of n.spot))))
-      by_left k m (inr h) = inr h
-
-      by_every : (k : ℕ) (m : Node) → Contains spots m.spot ⊎ Contains left (k, m) → Contains more m.spot ⊎ Contains rest (k, m)
-      by_every k m (inl h) = inl (subst (λ xs. Contains xs m.spot) (sym f) (Contains-append_left spots (n.spot ∷ []) m.spot h))
-      by_every k m (inr h) = by_left k m (Contains-cons_cases (key, n) (k, m) rest (subst (λ xs. Contains xs (k, m)) e h))
-
-      by_only : (r : Spot) → Contains spots r ⊎ Contains (n.spot ∷ []) r → IsLive (node_at tree) r
-      by_only r (inl h) = w.only r h
-      by_only r (inr h) = (key, subst (λ o. IsNodeOf o r) (sym here_is) (l, contains_one n.spot r h))
-
-  pub walk_passed : n.live ≡ false → Walked tree spots rest
-  walk_passed d = record { every = λ k m g l. by_every k m l (w.every k m g l); there = rest_there; only = w.only }
-    where
-      by_left : (k : ℕ) (m : Node) → m.live ≡ true → (◌≡◌ {A = ℕ × Node} (key, n) (k, m)) ⊎ Contains rest (k, m) → Contains spots m.spot ⊎ Contains rest (k, m)
-      by_left k m l (inl p) = absurd (not_both m.live l (ap (λ (x : ℕ × Node). x.1.live) (sym p) ∙ d))
-      by_left k m l (inr h) = inr h
-
-      by_every : (k : ℕ) (m : Node) → m.live ≡ true → Contains spots m.spot ⊎ Contains left (k, m) → Contains spots m.spot ⊎ Contains rest (k, m)
-      by_every k m l (inl h) = inl h
-      by_every k m l (inr h) = by_left k m l (Contains-cons_cases (key, n) (k, m) rest (subst (λ xs. Contains xs (k, m)) e h))
-
-node_where : (o : Option Node) (r : Spot) → IsNodeOf o r → (n : Node) × (o ≡ Some n) × (n.live ≡ true) × (n.spot ≡ r)
-node_where None r h = absurd h
-node_where (Some n) r h = (n, refl, h.0, h.1)
-
-pub walk_done : (tree : Tree) (spots : List Spot) (left : List (ℕ × Node)) → IsSound tree → left ≡ [] → Walked tree spots left → (r : Spot) → Contains spots r ↔ IsPointOf tree r
-walk_done tree spots left s e w r = (λ h. live_there tree r s (w.only r h), λ h. by_live (there_live tree r.id r h))
-  where
-    by_every : (key : ℕ) (n : Node) → n.spot ≡ r → Contains spots n.spot ⊎ Contains left (key, n) → Contains spots r
-    by_every key n same (inl h) = subst (Contains spots) same h
-    by_every key n same (inr h) = absurd (let h' : Contains [] (key, n) = subst (λ xs. Contains xs (key, n)) e h in let b : h'.0 < 0 = h'.1 in omega arith)
-
-    by_live : IsLive (node_at tree) r → Contains spots r
-    by_live l = let x : (n : Node) × (node_at tree l.0 ≡ Some n) × (n.live ≡ true) × (n.spot ≡ r) = node_where (node_at tree l.0) r l.1 in by_every l.0 x.0 x.3 (w.every l.0 x.0 x.1 x.2)
 
 pub blank_state : (tree : Tree) → IsBlank tree → tree_state tree ≡ with_rows map.empty
 blank_state tree b = ap (λ es. with_rows (rows_of (node_at tree) es)) b.entries

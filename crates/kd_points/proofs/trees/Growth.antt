@@ -4,7 +4,8 @@ use Rattle.std.proofs.Common.{sym, ◌∙◌, ap, subst, inl, inr, arith}
 use Rattle.std.specs.Ordering.{int_eq}
 use Rattle.gx_base.specs.declared.calls.Spot.{Spot}
 use Rattle.kd_points.specs.declared.nodes.Node.{Node}
-use Rattle.kd_points.specs.Trees.{Nodes, is_left, child, child_of, way, depth_of, linked, FitsSpot, IsTree}
+use Rattle.kd_points.specs.declared.nodes.Seat.TheVariants.{Free}
+use Rattle.kd_points.specs.Trees.{Nodes, is_left, child, child_of, way, depth_of, linked, FitsSpot, IsTree, IsSeat}
 use Rattle.kd_points.specs.TreeStates.{place, row_of_node}
 use Rattle.kd_points.proofs.states.Basics.{same_key, int_eq-itself, int_eq-comm, none_some, some_is}
 use Rattle.kd_points.proofs.states.StateRows.{row_found, Settles, row_of_live, row_of_another, row_of_alike}
@@ -27,6 +28,12 @@ linked_amends n false c free = record { spot = refl; axis = refl; depth = refl; 
 linked_side : (n : Node) (left : Bool) (c : ℕ) → child (linked n left c) left ≡ Some c
 linked_side n true c = refl
 linked_side n false c = refl
+
+linked_other : (n : Node) (left : Bool) (c : ℕ) (side : Bool) → (side ≡ left → ⊥) → child (linked n left c) side ≡ child n side
+linked_other n true c true d = absurd (d refl)
+linked_other n true c false d = refl
+linked_other n false c true d = refl
+linked_other n false c false d = absurd (d refl)
 
 linked_left : (n : Node) (left : Bool) (c : ℕ) (r : Spot) → is_left (linked n left c) r ≡ is_left n r
 linked_left n true c r = refl
@@ -51,6 +58,30 @@ module _ (look next : Nodes) (key at : ℕ) (n leaf : Node) (left : Bool) (vacan
       by_key (inl e) q = subst (λ o. Stays o (next j)) (sym (ap look e ∙ vacant)) tt
       by_key (inr d) (inl e) = subst (λ o. Stays o (next j)) (sym (ap look e ∙ stood)) (subst (Stays (Some n)) (sym (ap next e ∙ there)) (linked_amends n left key free))
       by_key (inr d) (inr f) = subst (Stays (look j)) (sym (others j d f)) (stays_itself (look j))
+
+  -- what belonged at the seat has its way to the new node
+  pub way_to_new : (r : Spot) (root : Option ℕ) → way look r n.depth root ≡ Some at → is_left n r ≡ left → way next r (suc n.depth) root ≡ Some key
+  way_to_new r root w side =
+      way_further next r n.depth root at (way_kept look next grown_stays r n.depth root at w)
+      ∙ ap (λ o. child_of o r) there ∙ ap (child (linked n left key)) (linked_left n left key r ∙ side) ∙ linked_side n left key
+
+  -- and what belonged on another free side still does
+  pub seat_stays : (r : Spot) (root : Option ℕ) (j : ℕ) (side : Bool) → IsSeat look root r (Free j side) → (Free j side ≡ Free at left → ⊥) → IsSeat next root r (Free j side)
+  seat_stays r root j side s apart = by_key (same_key j key) (same_key j at)
+    where
+      by_key : (j ≡ key) ⊎ (j ≡ key → ⊥) → (j ≡ at) ⊎ (j ≡ at → ⊥) → IsSeat next root r (Free j side)
+      by_key (inl e) q = absurd (none_some s.0 (sym (ap look e ∙ vacant) ∙ s.1))
+      by_key (inr d) (inl e) =
+          let same : s.0 ≡ n = some_is s.0 n (sym s.1 ∙ ap look e ∙ stood) in
+          let other : side ≡ left → ⊥ = λ f. apart (λ i. Free (e i) (f i)) in
+          let on_way : way look r n.depth root ≡ Some j = ap (λ (x : Node). way look r x.depth root) (sym same) ∙ s.4 in (
+            linked n left key,
+            ap next e ∙ there,
+            linked_other n left key side other ∙ ap (λ (x : Node). child x side) (sym same) ∙ s.2,
+            linked_left n left key r ∙ ap (λ (x : Node). is_left x r) (sym same) ∙ s.3,
+            ap (λ d. way next r d root) (linked_amends n left key free).depth ∙ way_kept look next grown_stays r n.depth root j on_way,
+          )
+      by_key (inr d) (inr f) = (s.0, others j d f ∙ s.1, s.2, s.3, way_kept look next grown_stays r s.0.depth root j s.4)
 
   -- each node but the new one was there
   record Stood (j : ℕ) (m : Node) : Type 0 where
@@ -78,9 +109,7 @@ module _ (look next : Nodes) (key at : ℕ) (n leaf : Node) (left : Bool) (vacan
       (bare : (s : Bool) → child leaf s ≡ None) (deep : leaf.depth ≡ suc n.depth) (fits : FitsSpot leaf.spot) (keys : (x : ℤ) → after x ≡ cond (int_eq leaf.spot.id x) (Some key) (numbers x))
       (unused : (j : ℕ) (x : Node) → look j ≡ Some x → x.live ≡ true → int_eq x.spot.id leaf.spot.id ≡ false) where
     leaf_placed : way next leaf.spot leaf.depth root ≡ Some key
-    leaf_placed =
-        ap (λ d. way next leaf.spot d root) deep ∙ way_further next leaf.spot n.depth root at (way_kept look next grown_stays leaf.spot n.depth root at on_way)
-        ∙ ap (λ o. child_of o leaf.spot) there ∙ ap (child (linked n left key)) (linked_left n left key leaf.spot ∙ side) ∙ linked_side n left key
+    leaf_placed = ap (λ d. way next leaf.spot d root) deep ∙ way_to_new leaf.spot root on_way side
 
     new_key : after leaf.spot.id ≡ Some key
     new_key = keys leaf.spot.id ∙ cond_true (int_eq leaf.spot.id leaf.spot.id) (Some key) (numbers leaf.spot.id) (int_eq-itself leaf.spot.id)

@@ -1,5 +1,5 @@
 -- A new point, as the code puts it in.
-use Rattle.std.specs.Prelude.{◌≡◌, ℕ, ℤ, ◌+◌, ◌≤◌, Bool, true, false, cond, Option, Some, None, List, is_some, count_by, slice_index_or, refl}
+use Rattle.std.specs.Prelude.{◌≡◌, ℕ, suc, ℤ, ◌+◌, ◌≤◌, Bool, true, false, cond, Option, Some, None, List, is_some, count_by, slice_index_or, refl}
 use Rattle.std.proofs.Common.{sym, ◌∙◌, ap, subst, arith}
 use Rattle.std.specs.Map.{lookup}
 use Rattle.std.specs.Ordering.{int_eq}
@@ -8,17 +8,18 @@ use Rattle.gx_base.specs.States.{with_row}
 use Rattle.slab.specs.Slab.{slab_len, Updates}
 use Rattle.kd_points.specs.declared.nodes.Axis.{Axis}
 use Rattle.kd_points.specs.declared.nodes.Node.{Node}
-use Rattle.kd_points.specs.declared.nodes.Seat.TheVariants.{Free}
+use Rattle.kd_points.specs.declared.nodes.Seat.{Seat}
+use Rattle.kd_points.specs.declared.nodes.Seat.TheVariants.{Free, Empty}
 use Rattle.kd_points.specs.declared.tree.Tree.{Tree}
 use Rattle.kd_points.specs.Trees.{child, way, is_left, leaf_of, linked, FitsSpot, IsTree, IsSeat}
-use Rattle.kd_points.specs.TreeStates.{node_at, key_of, place, rows_of, tree_state, count_of, dead_nodes, IsSound, IsAlike, IsPlanted, has_node, NoPoint}
+use Rattle.kd_points.specs.TreeStates.{node_at, key_of, place, rows_of, tree_state, count_of, dead_nodes, IsSound, IsAlike, IsPlanted, IsBelow, has_node, NoPoint}
 use Rattle.kd_points.proofs.states.Basics.{none_some, some_is}
 use Rattle.kd_points.proofs.states.StateRows.{with_rows, Settles}
 use Rattle.kd_points.proofs.states.Counts.{count-more}
-use Rattle.kd_points.proofs.trees.Ways.{AllStay}
+use Rattle.kd_points.proofs.trees.Ways.{AllStay, ended}
 use Rattle.kd_points.proofs.trees.Holders.{holds-at}
 use Rattle.kd_points.proofs.trees.Changes.{Changed, settled_state, nodes_kept, others_live}
-use Rattle.kd_points.proofs.trees.Growth.{grown_stays, grown_tree, grown_rows, first_stays, first_tree, first_rows}
+use Rattle.kd_points.proofs.trees.Growth.{grown_stays, way_to_new, seat_stays, grown_tree, grown_rows, first_stays, first_tree, first_rows}
 
 -- where nothing but the room has changed
 pub alike_state : (old new : Tree) → IsAlike old new → tree_state new ≡ tree_state old
@@ -55,6 +56,9 @@ grown_by old new spot key leaf s free t rows stays live here same size =
       size = size;
       live = live;
     }
+
+n_plus_one : (n : ℕ) → n + 1 ≡ suc n
+n_plus_one n = omega arith
 
 -- behind a node
 module _ (old mid new : Tree) (spot : Spot) (axis : Axis) (key at : ℕ) (n : Node) (left : Bool) (s : IsSound old) (free : NoPoint old spot.id) (stood : node_at old at ≡ Some n)
@@ -96,6 +100,23 @@ module _ (old mid new : Tree) (spot : Spot) (axis : Axis) (key at : ℕ) (n : No
       (grown_stays (node_at old) (node_at new) key at n leaf left p.vacant stood open_side here u.changed others)
       (ap (λ (t : Tree). t.live) rest ∙ p.live) here refl (size ∙ p.size)
 
+  pub hung_below : IsBelow old new (Free at left) spot axis key
+  hung_below = record {
+    vacant = p.vacant;
+    below = λ r s.
+        let n_is : s.0 ≡ n = some_is s.0 n (sym s.1 ∙ stood) in (
+          leaf,
+          here,
+          bare_leaf axis spot (n.depth + 1) (is_left leaf r),
+          refl,
+          ap (λ d. way (node_at new) r d new.root) (n_plus_one n.depth) ∙ ap (way (node_at new) r (suc n.depth)) root
+              ∙ way_to_new (node_at old) (node_at new) key at n leaf left p.vacant stood open_side here u.changed others r old.root
+              (ap (λ (x : Node). way (node_at old) r x.depth old.root) (sym n_is) ∙ s.4) (ap (λ (x : Node). is_left x r) (sym n_is) ∙ s.3),
+        );
+    beside = λ r j side s d. subst (λ o. IsSeat (node_at new) o r (Free j side)) (sym root)
+        (seat_stays (node_at old) (node_at new) key at n leaf left p.vacant stood open_side here u.changed others r old.root j side s d);
+  }
+
 -- as the root
 pub rooted_from : (old mid : Tree) (spot : Spot) (axis : Axis) (key : ℕ) → IsSound old → NoPoint old spot.id → old.root ≡ None → IsPlanted old mid key (leaf_of axis spot 0) → FitsSpot spot → Grown old (record mid { root = Some key }) spot
 rooted_from old mid spot axis key s free none p fits =
@@ -106,6 +127,17 @@ rooted_from old mid spot axis key s free none p fits =
     (first_rows (node_at old) (node_at mid) key (leaf_of axis spot 0) p.vacant p.nodes.changed p.nodes.others (slab_len old.nodes) (key_of old) (key_of mid) t (bare_leaf axis spot 0) refl fits p.keys refl)
     (first_stays (node_at old) (node_at mid) key (leaf_of axis spot 0) p.vacant p.nodes.changed p.nodes.others (slab_len old.nodes) (key_of old) (key_of mid) t (bare_leaf axis spot 0) refl fits p.keys)
     p.live p.nodes.changed refl p.size
+
+pub rooted_below : (old mid : Tree) (spot : Spot) (axis : Axis) (key : ℕ) → old.root ≡ None → IsPlanted old mid key (leaf_of axis spot 0) → IsBelow old (record mid { root = Some key }) Empty spot axis key
+rooted_below old mid spot axis key none p = record {
+  vacant = p.vacant;
+  below = λ r s. (leaf_of axis spot 0, p.nodes.changed, bare_leaf axis spot 0 (is_left (leaf_of axis spot 0) r), refl, refl);
+  beside = λ r j side s d. absurd (ended (node_at old) r s.0.depth j (ap (way (node_at old) r s.0.depth) (sym none) ∙ s.4));
+}
+
+-- the count of points doesn't matter
+pub below_counted : (old new : Tree) (seat : Seat) (spot : Spot) (axis : Axis) (key : ℕ) → IsBelow old new seat spot axis key → IsBelow old (record new { live = new.live + 1 }) seat spot axis key
+below_counted old new seat spot axis key b = record { vacant = b.vacant; below = b.below; beside = b.beside }
 
 -- a new node is live, and one that was dead may have become so
 pub no_more_dead : (old new : Tree) → slab_len new.nodes ≤ slab_len old.nodes + 1 → new.live ≡ old.live → dead_nodes (record new { live = new.live + 1 }) ≤ dead_nodes old

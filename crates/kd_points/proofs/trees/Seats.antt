@@ -1,5 +1,5 @@
 -- The way of a spot, as it is walked to the seat.
-use Rattle.std.specs.Prelude.{◌≡◌, ℕ, suc, ◌<◌, ◌≤◌, ◌-◌, ℤ, Bool, true, false, Option, Some, None, List, is_some, slice_index_or, refl}
+use Rattle.std.specs.Prelude.{◌≡◌, ℕ, suc, ◌<◌, ◌≤◌, ℤ, Bool, true, false, Option, Some, None, List, is_some, slice_index_or, refl}
 use Rattle.std.proofs.Common.{sym, ◌∙◌, ap, arith}
 use Rattle.gx_base.specs.declared.calls.Spot.{Spot}
 use Rattle.kd_points.specs.declared.nodes.Node.{Node}

@@ -1,5 +1,5 @@
 use Rattle.std.proofs.Common.{◌∙◌}
-use Rattle.kd_points.proofs.rebuilds.Gathering.{walk_begun, walk_taken, walk_passed, walk_done}
+use Rattle.kd_points.proofs.rebuilds.Walks.{walk_begun, walk_taken, walk_passed, walk_done}
 use Rattle.kd_points.proofs.tree.Tree.points.Goals as goal
 
 pub loop-key-init : goal.loop-key-init
@@ -7,11 +7,14 @@ loop-key-init c = (tt, tt, walk_begun c.args.self.now c.in_ok-spots.spots.items 
 
 pub loop-key-preserved-in-Continue-branch-2 : goal.loop-key-preserved-in-Continue-branch-2
 loop-key-preserved-in-Continue-branch-2 c =
-    (tt, tt, walk_taken c.args.self.now c.loop-key.spots.items c.loop-key.key-iterator c.next.new.self c.in-Some.key c.in-Some.node.now c.in-Some.ensures.steps c.loop-key.invariant.2 c.push.new.self.items c.if-node.true c.in_ok-push.ensures.items)
+    (tt, tt, walk_taken c.args.self.now c.loop-key.spots.items c.loop-key.key-iterator c.next.new.self c.in-Some.key c.in-Some.node.now c.in-Some.ensures.steps c.loop-key.invariant.2 c.requires c.push.new.self.items c.if-node.true c.in_ok-push.ensures.items)
 
 pub loop-key-preserved : goal.loop-key-preserved
 loop-key-preserved c =
     (tt, tt, walk_passed c.args.self.now c.loop-key.spots.items c.loop-key.key-iterator c.next.new.self c.in-Some.key c.in-Some.node.now c.in-Some.ensures.steps c.loop-key.invariant.2 c.if-node.false)
 
-pub returns : goal.returns
-returns c = walk_done c.args.self.now c.loop-key.spots.items c.loop-key.key-iterator c.requires c.in-None.ensures.steps.0 c.loop-key.invariant.2
+pub returns-clause-every : goal.returns-clause-every
+returns-clause-every c = walk_done c.args.self.now c.loop-key.spots.items c.loop-key.key-iterator c.requires c.in-None.ensures.steps.0 c.loop-key.invariant.2
+
+pub returns-clause-own : goal.returns-clause-own
+returns-clause-own c = c.loop-key.invariant.2.own

@@ -1,4 +1,4 @@
-use Rattle.kd_points.proofs.rebuilds.Gathering.{Walked}
+use Rattle.kd_points.proofs.rebuilds.Walks.{Walked}
 use Rattle.kd_points.proofs.tree.Tree.points.Given as goal
 
 abbrev pub invariant-loop-key : goal.invariant-loop-key

@@ -1,12 +1,10 @@
-use Rattle.std.proofs.Common.{◌≡◌, ◌≤◌, arith, ℕ, Some, to_z, of_z, w64, sym, ◌∙◌, ap, subst}
+use Rattle.std.proofs.Common.{◌≡◌, ℕ, Some, to_z, of_z, w64, sym, subst}
 use Rattle.std.proofs.lemmas.Int.{to_z-of_z}
 use Rattle.gx_base.specs.declared.calls.Spot.{Spot}
 use Rattle.kd_points.specs.declared.nodes.Node.{Node}
 use Rattle.kd_points.specs.declared.tree.Tree.{Tree}
 use Rattle.kd_points.specs.Trees.{FitsSpot}
-use Rattle.kd_points.specs.TreeStates.{node_at, dead_nodes, IsSound, place}
-use Rattle.slab.specs.Slab.{slab_len}
-use Rattle.kd_points.proofs.trees.Hung.{no_more_dead}
+use Rattle.kd_points.specs.TreeStates.{node_at, IsSound, place}
 use Rattle.kd_points.proofs.trees.Changes.{Changed, woken_from}
 use Rattle.kd_points.proofs.tree.Tree.wake.Goals as goal
 
@@ -24,11 +22,4 @@ returns c =
     subst (λ (t : Tree). Changed c.args.self.now t c.args.spot.id (Some (place c.args.spot))) (sym c.count_one.ensures)
     (woken_from c.args.self.now c.mark.new.self c.number.new.self c.args.spot c.args.key (to_z w64 (of_z w64 c.args.spot.id)) c.requires.sound c.requires.free c.requires.there (fits c.args.self.now c.args.key c.args.spot c.requires.sound c.requires.there)
     c.mark.ensures.nodes c.mark.ensures.count c.mark.ensures.rest c.number.ensures.keys c.number.ensures.rest).1 in
-    let size : slab_len c.number.new.self.nodes ≡ slab_len c.args.self.now.nodes = ap (λ (t : Tree). slab_len t.nodes) c.number.ensures.rest ∙ c.mark.ensures.count in
-    let live : c.number.new.self.live ≡ c.args.self.now.live = ap (λ (t : Tree). t.live) c.number.ensures.rest ∙ ap (λ (t : Tree). t.live) c.mark.ensures.rest in
-    record {
-      sound = w.sound;
-      state = w.state;
-      kept = w.kept;
-      dead = subst (λ (t : Tree). dead_nodes t ≤ dead_nodes c.args.self.now) (sym c.count_one.ensures) (no_more_dead c.args.self.now c.number.new.self (omega arith) live);
-    }
+    record { sound = w.sound; state = w.state; kept = w.kept }
