@@ -44,34 +44,24 @@ fn is_same(event: Event, plain: PlainEvent) -> bool {
     }
 }
 
-/// How many turns of each sort there were, and how many runs differ from the plain machine's or the reference runner's.
+/// How many conflicts there were, and how many runs differ from the plain machine's or the reference runner's.
 #[derive(Clone, Copy, Drop)]
 struct Counts {
-    turns: u64,
     conflicts: u64,
-    undone: u64,
-    commits: u64,
     differing: u64,
 }
 
 impl Counts {
     fn new() -> Counts {
         Counts {
-            turns: 0,
             conflicts: 0,
-            undone: 0,
-            commits: 0,
             differing: 0,
         }
     }
 
     fn note(&mut self, event: PlainEvent) {
-        self.turns = self.turns.saturating_add(1);
-        match event {
-            PlainEvent::Conflict(..) => self.conflicts = self.conflicts.saturating_add(1),
-            PlainEvent::Undo(..) => self.undone = self.undone.saturating_add(1),
-            PlainEvent::Commit(..) => self.commits = self.commits.saturating_add(1),
-            _ => {}
+        if let PlainEvent::Conflict(..) = event {
+            self.conflicts = self.conflicts.saturating_add(1);
         }
     }
 }
