@@ -71,6 +71,6 @@ fn tidying_drops_dead_rows_where_they_are_many(rt: HostRuntime) -> Result<(), Fa
     set.apply(Call::new(set_methods::ADD, 80, 0, 0, 0))?;
     set.tidy()?;
     assert!(rt; set.has(80) && set.roomed(Call::new(set_methods::ADD, 80, 0, 0, 0), yes));
-    assert!(rt; !set.has(1));
+    assert!(rt; !set.has(1) && !set.roomed(Call::new(set_methods::ADD, 1, 0, 0, 0), yes));
     Ok(())
 }

@@ -243,7 +243,7 @@ fn short_writes(rt: HostRuntime) -> Result<(), Fail> {
 #[test]
 fn usage_words(rt: HostRuntime) -> Result<(), Fail> {
     let alloc = rt.alloc();
-    let wrong: [&[&str]; 14] = [
+    let wrong: [&[&str]; 15] = [
         &[],
         &["flow"],
         &["flow", "net", "net"],
@@ -254,6 +254,7 @@ fn usage_words(rt: HostRuntime) -> Result<(), Fail> {
         &["classify"],
         &["classify", "net", "net"],
         &["classify", "--table"],
+        &["flow", "net", "--table", "precise", "--conditions", "own"],
         &["flow", "--help"],
         &["--help", "net"],
         &["--help", "--version"],

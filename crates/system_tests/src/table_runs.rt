@@ -182,7 +182,7 @@ fn conditions_are_refused_before_the_network(rt: HostRuntime) -> Result<(), Fail
 }
 
 #[test]
-fn conditions_are_read_before_the_network(rt: HostRuntime) -> Result<(), Fail> {
+fn both_files_are_read_before_either_is_judged(rt: HostRuntime) -> Result<(), Fail> {
     let alloc = rt.alloc();
     let first = ["flow", "absent", "--conditions", "own"];
     let (status, _) = run_on(alloc, &first, "", "type flow\nexcess fly : true\n", &[])?;
@@ -196,8 +196,7 @@ fn conditions_are_read_before_the_network(rt: HostRuntime) -> Result<(), Fail> {
 }
 
 /// Words that are refused.
-const REFUSED: [&[&str]; 8] = [
-    &["flow", "net", "--table", "precise", "--conditions", "own"],
+const REFUSED: [&[&str]; 7] = [
     &["flow", "net", "--conditions", "own", "--table", "global"],
     &["flow", "net", "--table", "Precise"],
     &["flow", "net", "--table", ""],
