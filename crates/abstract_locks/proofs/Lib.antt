@@ -1,1 +1,1 @@
-pub mod walks
+pub mod tables

@@ -8,5 +8,6 @@ pub use Rattle.gate_core.proofs.replays.Failing.{FailsAt, fails_at}
 pub use Rattle.gate_core.proofs.lawful.KeptLawful.{stands_after, saw_append, live_stands, state_stands}
 pub use Rattle.gate_core.proofs.lawful.GateLaws.{replays_alone}
 pub use Rattle.gate_core.proofs.replays.EntryReplays.{mades_of-append, mades_of-under, legal_join, calls_append, calls_filter, calls_without}
-pub use Rattle.gate_core.proofs.scans.ScanLemmas.{saw_front, found, all_passed}
+pub use Rattle.gate_core.proofs.scans.ScanLemmas.{saw_front}
+pub use Rattle.gate_core.proofs.scans.FirstPlaces.{first_found, none_found}
 pub use Rattle.gate_core.proofs.scans.PlainTables.{sees_first_alone}

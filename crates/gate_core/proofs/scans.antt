@@ -1,2 +1,3 @@
 pub mod ScanLemmas
+pub mod FirstPlaces
 pub mod PlainTables

@@ -4,8 +4,7 @@ use Rattle.gx_base.specs.States.{State}
 use Rattle.gx_base.specs.TableRows.{row_of}
 use Rattle.gate_core.specs.Replays.{start_of, AllSawRight, IsFirstFailing}
 use Rattle.gate_core.specs.Scans.{SeesFirstAlone}
-use Rattle.gate_core.proofs.CallerLemmas.{sees_first_alone, saw_front}
-use Rattle.forward_gate.proofs.walks.FirstPlaces.{first_found, none_found}
+use Rattle.gate_core.proofs.CallerLemmas.{sees_first_alone, saw_front, first_found, none_found}
 use Rattle.forward_gate.proofs.forward.ForwardScreenScreen.first_failing.Goals as goal
 
 pub returns-in_err-place-clause-first : goal.returns-in_err-place-clause-first

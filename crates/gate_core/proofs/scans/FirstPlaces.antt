@@ -1,4 +1,5 @@
--- The first entry whose row is false by the log is the first that is in the way.
+-- The first entry whose row is false by what it logged is the first that is in the way, for a screen that finds the place of
+-- the one.
 use Rattle.std.specs.Prelude.{◌≡◌, ℕ, zero, suc, ◌<◌, ◌≤◌, pos, Bool, true, false, not, cond, Option, Some, None, List, [], ◌∷◌, length, take, position, nat_lt, refl}
 use Rattle.std.proofs.Common.{sym, arith, get_or}
 use Rattle.std.proofs.lemmas.Bool.Decides.{nat_tests}
@@ -11,7 +12,7 @@ use Rattle.gx_base.specs.declared.acts.Entry.{Entry}
 use Rattle.gate_core.specs.Entries.{Each}
 use Rattle.gate_core.specs.Replays.{AllSawRight, IsFirstFailing}
 use Rattle.gate_core.specs.Scans.{SeesFirstAlone, log_ok}
-use Rattle.gate_core.proofs.CallerLemmas.{found, all_passed}
+use Rattle.gate_core.proofs.scans.ScanLemmas.{found, all_passed}
 
 true_of : (b : Bool) → not b ≡ false → b ≡ true
 true_of true e = refl
