@@ -38,8 +38,8 @@ rest_at (stages.AfterSecondWeight id first second weight) reply = with_weights i
 rest_at (stages.Merging merge step) reply = merging_from merge step
 rest_at stages.End reply = Done
 
-abbrev pub rest_of : Stage → Option Reply → Plan
-rest_of stage reply = rest_at stage (reply_or_zeros reply)
+abbrev pub body_rest : Stage → Option Reply → Plan
+body_rest stage reply = rest_at stage (reply_or_zeros reply)
 
 -- at most so many acts are left
 abbrev pub acts_from : MergeStep → ℕ
@@ -62,4 +62,4 @@ acts_left stages.End = 0
 
 -- the act begins the plan, the stage is where the rest of it is done, and the bound on the acts falls
 abbrev pub MovesTo : Plan → ℕ → Act → Stage → Type 0
-MovesTo plan bound act stage = Moves rooms rest_of acts_left plan bound act stage
+MovesTo plan bound act stage = Moves rooms body_rest acts_left plan bound act stage

@@ -5,7 +5,7 @@ ghost use Rattle.gx_base.specs.Spots.{spot_of_reply};
 ghost use Rattle.clustering.specs.PointFiles.{most_points};
 ghost use Rattle.clustering.specs.PointCalls.{rooms};
 ghost use Rattle.clustering.specs.Chain.{chain_plan, is_of_id, chase, with_place, with_nearest, going_to, merging_both, weighing, with_weights};
-ghost use Rattle.clustering.specs.ChainStages.{MovesTo, rest_at, rest_of, acts_left, acts_from, merging_from, reply_or_zeros};
+ghost use Rattle.clustering.specs.ChainStages.{MovesTo, rest_at, body_rest, acts_left, acts_from, merging_from, reply_or_zeros};
 ghost use Rattle.clustering.specs.Chains.{plan_of};
 
 use crate::merges::{into_key, merge_of, weight_key};
@@ -257,7 +257,7 @@ impl Operator for Chain {
 
     ghost plan = { plan_of };
 
-    ghost rest = { λ chain. rest_of };
+    ghost rest = { λ chain. body_rest };
 
     ghost to_go = { λ chain. acts_left };
 

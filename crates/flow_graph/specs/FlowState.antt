@@ -19,7 +19,7 @@ use Rattle.gx_base.specs.FlowKind.{flow_use, height_sort, excess_sort, flow_sort
 use Rattle.gx_base.specs.Steps.{IsState}
 use Rattle.kind_tables.specs.TablesOfKinds.{tables_of}
 use Rattle.kind_tables.proofs.CallerLemmas.{tables_of-SuitKind}
-use Rattle.number_rows.specs.NumberRows.{rows_of, IsLean, dead_rows}
+use Rattle.number_rows.specs.NumberRows.{number_rows_of, IsLean, dead_rows}
 use Rattle.number_rows.specs.NumbersAsRows.{number_in}
 use Rattle.number_rows.proofs.CallerLemmas.{number-fits}
 use Rattle.flow_graph.specs.declared.numbers.FlowNumbers.{FlowNumbers}
@@ -30,7 +30,7 @@ use Rattle.flow_graph.specs.FlowRows.{Numbers, flow_rows, flow_rows-HoldNumbers}
 -- the rows of a sort that are there: none before the first write
 abbrev pub rows_in : Option (Box FlowNumbers) → ℕ → Numbers
 rows_in None sort = map.empty
-rows_in (Some numbers) sort = rows_of (sorted numbers.value sort)
+rows_in (Some numbers) sort = number_rows_of (sorted numbers.value sort)
 
 -- nothing was written yet
 abbrev pub IsUnwritten : FlowShard → Type 0

@@ -4,7 +4,7 @@ use Rattle.gx_base.specs.Replays.{in_rooms, no_state}
 use Rattle.gx_base.specs.States.{State}
 use Rattle.commit_book.specs.BookViews.{BookView, new_book}
 use Rattle.speculation.specs.Events.{Turn}
-use Rattle.schedules.specs.Draws.{schedule_of}
+use Rattle.schedules.specs.Draws.{scheduled_turns}
 use Rattle.rooms.specs.declared.values.Value.{Value}
 use Rattle.rooms.specs.declared.values.Value.TheVariants.{Object, Book}
 use Rattle.iterate.specs.Plays.{IsPlayed}
@@ -25,7 +25,7 @@ pub record AreValuesOf {T S : Type 0} (tables : GateTables) (loop : Loop) (value
 -- the loop was run by its schedule, and left these turns and these values
 pub record IsLoopPlayed {T S : Type 0} (options : RunOptions) (tables : GateTables) (loop : Loop) (trace : List Turn) (values : ℕ → Option (Value T S)) : Type 0 where
   pub empty_past : (room : ℕ) → loop.operator.rooms ≤ room → loop.states room ≡ no_state
-  pub is_played : IsPlayed loop.operator (loop_machine loop tables) options.workers (schedule_of options.seed options.workers options.turns) trace values
+  pub is_played : IsPlayed loop.operator (loop_machine loop tables) options.workers (scheduled_turns options.seed options.workers options.turns) trace values
 
 -- the states of the gates among values
 abbrev pub states_in : {T S : Type 0} → List (Value T S) → List State

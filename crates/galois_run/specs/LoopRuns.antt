@@ -12,7 +12,7 @@ use Rattle.commit_book.specs.BookViews.{new_book}
 use Rattle.speculation.specs.Limits.{Limit, limit_of_played}
 use Rattle.speculation.specs.Machines.{Machine}
 use Rattle.speculation.specs.ScheduledRuns.{Run, played}
-use Rattle.schedules.specs.Draws.{schedule_of}
+use Rattle.schedules.specs.Draws.{scheduled_turns}
 use Rattle.iterate.specs.Places.{no_gate}
 use Rattle.iterate.specs.SessionViews.{begun_view}
 use Rattle.traces.specs.Traces.{trace_text}
@@ -45,11 +45,11 @@ loop_machine loop tables = record {
 
 -- the workers take the turns that the seed draws, and at the end worker 0 takes so many alone
 abbrev pub run_of : RunOptions → GateTables → Loop → ℕ → Run
-run_of options tables loop turns = played loop.operator (loop_machine loop tables) options.workers (schedule_of options.seed options.workers options.turns) turns
+run_of options tables loop turns = played loop.operator (loop_machine loop tables) options.workers (scheduled_turns options.seed options.workers options.turns) turns
 
 -- the limit that the first of its commits passes which passes one
 abbrev pub limit_in : RunOptions → GateTables → Loop → ℕ → Option Limit
-limit_in options tables loop turns = limit_of_played loop.operator (loop_machine loop tables) options.workers (schedule_of options.seed options.workers options.turns) turns
+limit_in options tables loop turns = limit_of_played loop.operator (loop_machine loop tables) options.workers (scheduled_turns options.seed options.workers options.turns) turns
 
 -- this is the loop's run by its schedule, to its end, and no commit of it passes a limit
 pub record IsLoopRun (options : RunOptions) (tables : GateTables) (loop : Loop) (run : Run) : Type 0 where

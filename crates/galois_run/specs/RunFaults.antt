@@ -86,7 +86,7 @@ pub record FaultsWhere {A : Type 0} (cause : Type 0) (fault : RunFault) (result 
   pub always : cause → (result ≡ Err fault) ⊎ (result ≡ Err NoMemory)
 
 -- what a command answers on its inputs is what it means: each fault comes exactly where the inputs call for it
-pub record Answers (meaning : CommandMeaning) (inputs : Inputs) (result : Result (Vec ℕ Global) RunFault) : Type 0 where
+pub record FaultAnswers (meaning : CommandMeaning) (inputs : Inputs) (result : Result (Vec ℕ Global) RunFault) : Type 0 where
   pub reported : IfOk result (λ text. meaning.reported inputs text.items)
   pub bad_table : (why : TableFault) → FaultsWhere (meaning.bad_table inputs why) (BadTable why) result
   pub malformed : (line : ℕ) → FaultsWhere (meaning.malformed inputs line) (BadInput line) result

@@ -8,10 +8,10 @@ use Rattle.table_choice.specs.Choices.{choice_of}
 use Rattle.galois_run.specs.declared.options.RunOptions.{RunOptions}
 
 -- the value that follows a name, where every other word is a name
-abbrev pub value_of : List (List ℕ) → List ℕ → Option (List ℕ)
-value_of [] name = None
-value_of (known ∷ []) name = None
-value_of (known ∷ value ∷ words) name = if bytes_eq known name then Some value else value_of words name
+abbrev pub option_value : List (List ℕ) → List ℕ → Option (List ℕ)
+option_value [] name = None
+option_value (known ∷ []) name = None
+option_value (known ∷ value ∷ words) name = if bytes_eq known name then Some value else option_value words name
 
 -- ---- which words are options
 
@@ -38,11 +38,11 @@ may_have name value =
 abbrev pub are_options : List (List ℕ) → Bool
 are_options [] = true
 are_options (name ∷ []) = false
-are_options (name ∷ value ∷ words) = may_have name value && not (is_some (value_of words name)) && are_options words
+are_options (name ∷ value ∷ words) = may_have name value && not (is_some (option_value words name)) && are_options words
 
 -- a shipped table is named, and a file of conditions too
 abbrev pub names_two_tables : List (List ℕ) → Bool
-names_two_tables words = is_some (value_of words (codes "--table")) && is_some (value_of words (codes "--conditions"))
+names_two_tables words = is_some (option_value words (codes "--table")) && is_some (option_value words (codes "--conditions"))
 
 -- ---- what they say
 
@@ -63,12 +63,12 @@ table_or default (Some value) = unwrap_or (choice_of value) default
 -- without an option there are one worker, no scheduled turns, the seed 0, no lines of a trace, and the precise table
 abbrev pub options_by : List (List ℕ) → RunOptions
 options_by words = record {
-  workers = number_or 1 (value_of words (codes "--virtual"));
-  turns = number_or 0 (value_of words (codes "--turns"));
-  seed = number_or 0 (value_of words (codes "--seed"));
-  trace = is_some (value_of words (codes "--trace"));
-  told = is_some (value_of words (codes "--told"));
-  table = table_or Precise (value_of words (codes "--table"));
+  workers = number_or 1 (option_value words (codes "--virtual"));
+  turns = number_or 0 (option_value words (codes "--turns"));
+  seed = number_or 0 (option_value words (codes "--seed"));
+  trace = is_some (option_value words (codes "--trace"));
+  told = is_some (option_value words (codes "--told"));
+  table = table_or Precise (option_value words (codes "--table"));
 }
 
 -- the options that words are, where they are options and name one table at most

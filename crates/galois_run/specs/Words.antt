@@ -4,7 +4,7 @@ use Rattle.galois_run.specs.declared.words.Command.{Command}
 use Rattle.galois_run.specs.declared.words.Command.TheVariants.{Flow, Cluster, Classify, Help, Version}
 use Rattle.galois_run.specs.declared.words.Plan.{Plan}
 use Rattle.galois_run.specs.declared.options.RunOptions.{RunOptions}
-use Rattle.galois_run.specs.RunOptions.{value_of, is_plain, options_by, options_of}
+use Rattle.galois_run.specs.RunOptions.{option_value, is_plain, options_by, options_of}
 
 -- a command, the names of the files that are to be read for it, where the words give them (its main file, a file of
 -- conditions, and a second file), and the options of its run
@@ -16,12 +16,12 @@ pub record Planned : Type 0 where
   pub options : RunOptions
 
 -- a command that reads no file
-abbrev pub alone : Command → Planned
-alone command = record { command = command; main = None; conditions = None; second = None; options = options_by [] }
+abbrev pub by_itself : Command → Planned
+by_itself command = record { command = command; main = None; conditions = None; second = None; options = options_by [] }
 
 -- a command on one file, and on one of conditions where its options name one
 abbrev pub on_main : Command → List ℕ → List (List ℕ) → RunOptions → Planned
-on_main command file words options = record { command = command; main = Some file; conditions = value_of words (codes "--conditions"); second = None; options = options }
+on_main command file words options = record { command = command; main = Some file; conditions = option_value words (codes "--conditions"); second = None; options = options }
 
 abbrev pub command_of : List ℕ → Option Command
 command_of word =
@@ -49,10 +49,10 @@ with_file None file words = None
 with_file (Some command) file words = if is_plain file then option_map (on_main command file words) (options_for command words) else None
 
 -- the grammar of the words: one of those that stand alone, or a command, one plain word, and the command's options
-abbrev pub plan_of : List (List ℕ) → Option Planned
-plan_of [] = None
-plan_of (word ∷ []) = option_map alone (lone_command word)
-plan_of (word ∷ file ∷ words) = with_file (command_of word) file words
+abbrev pub plan_of_words : List (List ℕ) → Option Planned
+plan_of_words [] = None
+plan_of_words (word ∷ []) = option_map by_itself (lone_command word)
+plan_of_words (word ∷ file ∷ words) = with_file (command_of word) file words
 
 abbrev pub planned : Plan → Planned
 planned plan = record { command = plan.command; main = option_map string_bytes plan.file; conditions = option_map string_bytes plan.conditions; second = None; options = plan.options }

@@ -9,7 +9,7 @@ mod mode_lines;
 ghost use Rattle.std.specs.Prelude.{◌≤◌};
 ghost use Rattle.galois_run.specs.CommandMeanings.{command_meaning};
 ghost use Rattle.galois_run.specs.Inputs.{inputs_in};
-ghost use Rattle.galois_run.specs.RunFaults.{Answers};
+ghost use Rattle.galois_run.specs.RunFaults.{FaultAnswers};
 ghost use Rattle.galois_run.specs.Words.{planned};
 
 use crate::inputs::InputFiles;
@@ -28,7 +28,7 @@ pub(crate) fn report_of(
     inputs: &InputFiles,
 ) -> Result<Vec<u8>, RunFault>
     requires { 1 ≤ (planned plan.now).options.workers }
-    ensures { Answers (command_meaning (planned plan.now)) (inputs_in inputs.now) result }
+    ensures { FaultAnswers (command_meaning (planned plan.now)) (inputs_in inputs.now) result }
 {
     match plan.command() {
         Command::Flow => report_flow(alloc, plan.options(), inputs),

@@ -6,7 +6,7 @@ ghost use Rattle.gx_base.specs.Kinds.{kind_number};
 ghost use Rattle.commit_book.specs.BookViews.{new_book};
 ghost use Rattle.commit_book.specs.SerialRuns.{operator_of};
 ghost use Rattle.speculation.specs.Limits.{Limit};
-ghost use Rattle.schedules.specs.Draws.{schedule_of};
+ghost use Rattle.schedules.specs.Draws.{scheduled_turns};
 ghost use Rattle.rooms.specs.Values.{tells};
 ghost use Rattle.rooms.specs.Visits.{AreGatesAndBook};
 ghost use Rattle.iterate.specs.EventViews.{turns_of};
@@ -56,8 +56,8 @@ pub(crate) fn run_values<T: SeqType, O: Operator>(
     requires workers { 1 ≤ options.workers }
     requires kinds { AreGatesAndBook (map tells values.items) }
     requires new { AreNewFor (operator_of O.Operator op.now) (slice_get values.items) }
-    ensures played { IfOk result (λ played. IsPlayed (operator_of O.Operator op.now) (begun_machine (O.room_count op.now) (slice_get values.items)) options.workers (schedule_of options.seed options.workers options.turns) (turns_of played.trace.items) (slice_get played.values.items)) }
-    ensures past { (limit : Limit) → result ≡ Err (fault_of_limit limit) → PassesFirst (operator_of O.Operator op.now) (begun_machine (O.room_count op.now) (slice_get values.items)) options.workers (schedule_of options.seed options.workers options.turns) limit }
+    ensures played { IfOk result (λ played. IsPlayed (operator_of O.Operator op.now) (begun_machine (O.room_count op.now) (slice_get values.items)) options.workers (scheduled_turns options.seed options.workers options.turns) (turns_of played.trace.items) (slice_get played.values.items)) }
+    ensures past { (limit : Limit) → result ≡ Err (fault_of_limit limit) → PassesFirst (operator_of O.Operator op.now) (begun_machine (O.room_count op.now) (slice_get values.items)) options.workers (scheduled_turns options.seed options.workers options.turns) limit }
     ensures well_formed { (line : ℕ) → result ≡ Err (faults.BadInput line) → ⊥ }
     ensures small { (what : What) → result ≡ Err (faults.TooLarge what) → ⊥ }
     ensures accepted { (why : TableFault) → result ≡ Err (faults.BadTable why) → ⊥ }

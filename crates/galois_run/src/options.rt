@@ -1,6 +1,6 @@
 ghost use Rattle.std.specs.Prelude.{◌≡◌, ◌≤◌, ◌<◌, ◌∷◌, length, true, IfSome, IfNone, codes, map, option_map, string_bytes};
 ghost use Rattle.text_lines.specs.Numbers.{number_of};
-ghost use Rattle.galois_run.specs.RunOptions.{value_of, is_plain, is_between, may_have, are_options, names_two_tables, number_or, table_or, options_by, options_of};
+ghost use Rattle.galois_run.specs.RunOptions.{option_value, is_plain, is_between, may_have, are_options, names_two_tables, number_or, table_or, options_by, options_of};
 
 use gx_base::Choice;
 use table_choice::choice_named;
@@ -52,36 +52,36 @@ fn options_in(words: &[String]) -> RunOptions
 {
     RunOptions {
         workers: workers_in(words),
-        turns: number_or(0, value_of(words, "--turns")),
-        seed: number_or(0, value_of(words, "--seed")),
-        trace: value_of(words, "--trace").is_some(),
-        told: value_of(words, "--told").is_some(),
-        table: table_or(Choice::Precise, value_of(words, "--table")),
+        turns: number_or(0, option_value(words, "--turns")),
+        seed: number_or(0, option_value(words, "--seed")),
+        trace: option_value(words, "--trace").is_some(),
+        told: option_value(words, "--told").is_some(),
+        table: table_or(Choice::Precise, option_value(words, "--table")),
     }
 }
 
 /// The name of the file of conditions that options say.
 pub(crate) fn conditions_in(words: &[String]) -> Option<&str>
-    ensures { option_map (λ name. name.now) result ≡ value_of (map string_bytes words.now) (codes "--conditions") }
+    ensures { option_map (λ name. name.now) result ≡ option_value (map string_bytes words.now) (codes "--conditions") }
 {
-    value_of(words, "--conditions")
+    option_value(words, "--conditions")
 }
 
 /// Whether options name a shipped table, and a file of conditions too.
 fn names_two_tables(words: &[String]) -> bool
     ensures { result ≡ names_two_tables (map string_bytes words.now) }
 {
-    value_of(words, "--table").is_some() && value_of(words, "--conditions").is_some()
+    option_value(words, "--table").is_some() && option_value(words, "--conditions").is_some()
 }
 
 /// How many virtual workers options say.
 #[tactic(auto, using(crate::proofs::run_options::GivenValues::workers_within))]
 fn workers_in(words: &[String]) -> u32
     requires { are_options (map string_bytes words.now) ≡ true }
-    ensures workers { result ≡ number_or 1 (value_of (map string_bytes words.now) (codes "--virtual")) }
+    ensures workers { result ≡ number_or 1 (option_value (map string_bytes words.now) (codes "--virtual")) }
     ensures some { 1 ≤ result }
 {
-    number_or(1, value_of(words, "--virtual")) as u32
+    number_or(1, option_value(words, "--virtual")) as u32
 }
 
 /// Whether each name has a value that it may have, and comes once.
@@ -93,7 +93,7 @@ fn are_options(words: &[String]) -> bool
         if !may_have(name, value) {
             return false;
         }
-        if value_of(more, name).is_some() {
+        if option_value(more, name).is_some() {
             return false;
         }
         rest = more;
@@ -102,8 +102,8 @@ fn are_options(words: &[String]) -> bool
 }
 
 /// The value that follows a name, where every other word is a name.
-fn value_of<'a>(words: &'a [String], name: &str) -> Option<&'a str>
-    ensures { option_map (λ value. value.now) result ≡ value_of (map string_bytes words.now) name.now }
+fn option_value<'a>(words: &'a [String], name: &str) -> Option<&'a str>
+    ensures { option_map (λ value. value.now) result ≡ option_value (map string_bytes words.now) name.now }
 {
     let mut rest = words;
     'names: while let Some((known, value, more)) = first_pair(rest) {

@@ -6,7 +6,7 @@ ghost use Rattle.gx_io.specs.Sinks.{AddsWhole, AddsFront};
 ghost use Rattle.galois_run.specs.CommandMeanings.{command_meaning};
 ghost use Rattle.galois_run.specs.Inputs.{inputs_of, OnInputs};
 ghost use Rattle.galois_run.specs.RunTurns.{IsCaused, IsReported, IsWritten, IsReportCutShort, IsAnswer, Completes, writes, IsRefusal, ending};
-ghost use Rattle.galois_run.specs.Words.{plan_of, planned};
+ghost use Rattle.galois_run.specs.Words.{plan_of_words, planned};
 
 use crate::commands::report_of;
 use crate::inputs::read_inputs;
@@ -24,16 +24,16 @@ pub fn run_turns<F: Files, K: Sink>(
     out: &mut K,
 ) -> Status
     // The command's report on its inputs was written whole and flushed.
-    ensures ok { result ≡ Status.Ok → OnInputs (plan_of (map string_bytes words.now)) (F.holds files.old) (λ plan inputs. IsWritten (command_meaning plan) inputs (K.told out.old) (K.told out.new)) }
+    ensures ok { result ≡ Status.Ok → OnInputs (plan_of_words (map string_bytes words.now)) (F.holds files.old) (λ plan inputs. IsWritten (command_meaning plan) inputs (K.told out.old) (K.told out.new)) }
 
     // Each refusal comes by its cause.
-    ensures usage { (result ≡ Status.Usage) ↔ (plan_of (map string_bytes words.now) ≡ None) }
-    ensures caused { OnInputs (plan_of (map string_bytes words.now)) (F.holds files.old) (λ plan inputs. IsCaused (command_meaning plan) inputs result) }
-    ensures cut_short { result ≡ Status.WriteFault → OnInputs (plan_of (map string_bytes words.now)) (F.holds files.old) (λ plan inputs. IsReportCutShort (command_meaning plan) inputs (K.told out.old) (K.told out.new)) }
-    ensures answers { IfSome (plan_of (map string_bytes words.now)) (λ plan. IsAnswer (command_meaning plan) result) }
+    ensures usage { (result ≡ Status.Usage) ↔ (plan_of_words (map string_bytes words.now) ≡ None) }
+    ensures caused { OnInputs (plan_of_words (map string_bytes words.now)) (F.holds files.old) (λ plan inputs. IsCaused (command_meaning plan) inputs result) }
+    ensures cut_short { result ≡ Status.WriteFault → OnInputs (plan_of_words (map string_bytes words.now)) (F.holds files.old) (λ plan inputs. IsReportCutShort (command_meaning plan) inputs (K.told out.old) (K.told out.new)) }
+    ensures answers { IfSome (plan_of_words (map string_bytes words.now)) (λ plan. IsAnswer (command_meaning plan) result) }
 
     // Where nothing is wrong with the inputs, nothing but a fault or want of memory keeps the report from being written.
-    ensures complete { OnInputs (plan_of (map string_bytes words.now)) (F.holds files.old) (λ plan inputs. Completes (command_meaning plan) inputs result) }
+    ensures complete { OnInputs (plan_of_words (map string_bytes words.now)) (F.holds files.old) (λ plan inputs. Completes (command_meaning plan) inputs result) }
 
     // A count of faults rises with the status that tells the fault, and stays with every other.
     ensures read_fault { Counts (F.faults files.old) (F.faults files.new) (result ≡ Status.ReadFault) (result ≢ Status.ReadFault) }

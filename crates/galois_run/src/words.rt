@@ -1,7 +1,7 @@
 ghost use Rattle.std.specs.Prelude.{◌≡◌, ◌↔◌, ◌≤◌, ◌<◌, [], ◌∷◌, length, None, IsErrOf, IfOk, IfSome, IfNone, map, option_map, string_bytes};
 ghost use Rattle.galois_run.specs.RunOptions.{options_by};
 ghost use Rattle.galois_run.specs.declared.words.WordsFault.TheVariants.{NoMemory};
-ghost use Rattle.galois_run.specs.Words.{command_of, lone_command, options_for, IsPlanned, planned, plan_of};
+ghost use Rattle.galois_run.specs.Words.{command_of, lone_command, options_for, IsPlanned, planned, plan_of_words};
 
 use crate::options::{NO_OPTIONS, RunOptions, conditions_in, is_plain, read_options};
 use std::alloc::{AllocError, Global};
@@ -91,9 +91,9 @@ fn no_options(words: &[String]) -> Option<RunOptions>
 
 /// Reads the words after the program's own name.
 pub fn read_words(alloc: Global, words: &[String]) -> Result<Plan, WordsFault>
-    ensures planned { IfOk result (IsPlanned (plan_of (map string_bytes words.now))) }
+    ensures planned { IfOk result (IsPlanned (plan_of_words (map string_bytes words.now))) }
     ensures workers { IfOk result (λ plan. 1 ≤ (planned plan).options.workers) }
-    ensures usage { IsErrOf result WordsFault.Usage ↔ (plan_of (map string_bytes words.now) ≡ None) }
+    ensures usage { IsErrOf result WordsFault.Usage ↔ (plan_of_words (map string_bytes words.now) ≡ None) }
 {
     let Some((word, words)) = words.split_first() else {
         return Err(WordsFault::Usage);
@@ -106,9 +106,9 @@ pub fn read_words(alloc: Global, words: &[String]) -> Result<Plan, WordsFault>
 
 /// Reads a word that stands alone.
 fn plan_alone(word: &str) -> Result<Plan, WordsFault>
-    ensures planned { IfOk result (IsPlanned (plan_of (word.now ∷ []))) }
+    ensures planned { IfOk result (IsPlanned (plan_of_words (word.now ∷ []))) }
     ensures workers { IfOk result (λ plan. 1 ≤ (planned plan).options.workers) }
-    ensures usage { IsErrOf result WordsFault.Usage ↔ (plan_of (word.now ∷ []) ≡ None) }
+    ensures usage { IsErrOf result WordsFault.Usage ↔ (plan_of_words (word.now ∷ []) ≡ None) }
 {
     match lone_command(word) {
         Some(command) => Ok(Plan {
@@ -133,9 +133,9 @@ fn owned(alloc: Global, word: Option<&str>) -> Result<Option<String>, AllocError
 
 /// Reads a command, the name of a file, and options.
 fn plan_on_file(alloc: Global, word: &str, file: &str, words: &[String]) -> Result<Plan, WordsFault>
-    ensures planned { IfOk result (IsPlanned (plan_of (word.now ∷ file.now ∷ map string_bytes words.now))) }
+    ensures planned { IfOk result (IsPlanned (plan_of_words (word.now ∷ file.now ∷ map string_bytes words.now))) }
     ensures workers { IfOk result (λ plan. 1 ≤ (planned plan).options.workers) }
-    ensures usage { IsErrOf result WordsFault.Usage ↔ (plan_of (word.now ∷ file.now ∷ map string_bytes words.now) ≡ None) }
+    ensures usage { IsErrOf result WordsFault.Usage ↔ (plan_of_words (word.now ∷ file.now ∷ map string_bytes words.now) ≡ None) }
 {
     let Some(command) = command_named(word) else {
         return Err(WordsFault::Usage);

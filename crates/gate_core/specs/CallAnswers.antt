@@ -15,7 +15,7 @@ use Rattle.gate_core.specs.declared.refusals.GateRefuse.{GateRefuse}
 use Rattle.gate_core.specs.declared.refusals.GateRefuse.TheVariants.{Conflict, NoMemory}
 use Rattle.gate_core.specs.Entries.{Each, made_of}
 use Rattle.gate_core.specs.Replays.{after, first_failing, SeesRight}
-use Rattle.gate_core.specs.Views.{GateView, IsLawfulGate, rows_of, live_start, asked_entry, in_way, admit}
+use Rattle.gate_core.specs.Views.{GateView, IsLawfulGate, gate_rows, live_start, asked_entry, in_way, admit}
 
 -- each of the entries can be undone, and done again, without memory
 abbrev pub AllRoomed : (Made → Bool) → List Entry → Type 0
@@ -51,7 +51,7 @@ TellsOf rows s live asked (Some told) = (place : ℕ) × Tells rows s live asked
 
 -- nothing changed, and a conflict tells the first live entry that is in the way of the call
 abbrev pub GateRefusalFits : GateView → GateView → ℕ → ℕ → Item → Call → GateRefuse → Type 0
-GateRefusalFits old new worker iter item call (Conflict told) = TellsOf (rows_of old) (live_start old) old.live (asked_entry worker iter item call old.state) (Some told) × (new ≡ old)
+GateRefusalFits old new worker iter item call (Conflict told) = TellsOf (gate_rows old) (live_start old) old.live (asked_entry worker iter item call old.state) (Some told) × (new ≡ old)
 GateRefusalFits old new worker iter item call NoMemory = new ≡ old
 
 -- the call and the reply of an entry

@@ -30,8 +30,8 @@ view_code =
     (λ p. record { kind = p.0; table = p.1.0; state = p.1.1.0; done = p.1.1.1.0; live = p.1.1.1.1.0; mark = p.1.1.1.1.1 })
     (λ _. refl)
 
-abbrev pub rows_of : GateView → Rows
-rows_of g = row_of g.table
+abbrev pub gate_rows : GateView → Rows
+gate_rows g = row_of g.table
 
 -- the state before the live entries, and the one that the gate began with
 abbrev pub live_start : GateView → State
@@ -42,8 +42,8 @@ start g = start_of (live_start g) g.done
 
 -- a lawful gate. The arrangement is the done entries and then the live ones
 pub record IsLawfulGate (g : GateView) : Type 0 where
-  pub valid : IsValid g.kind (rows_of g)
-  pub keeps_to_kind : KeepsToKind g.kind (rows_of g)
+  pub valid : IsValid g.kind (gate_rows g)
+  pub keeps_to_kind : KeepsToKind g.kind (gate_rows g)
   -- the arrangement replays legally from the start and ends in the object's state
   pub stands : Stands g.kind (start g)
   pub done_calls : AllCalls g.done
@@ -51,8 +51,8 @@ pub record IsLawfulGate (g : GateView) : Type 0 where
   pub done_legal : LegalEntries (start g) g.done (live_start g)
   pub live_legal : LegalEntries (live_start g) g.live g.state
   -- two live entries of different iterations have a true row, and what a row may use of what a live entry saw is right
-  pub pairs : PairsFit (rows_of g) (live_start g) g.live
-  pub saw : AllSawRight (rows_of g) (live_start g) g.live
+  pub pairs : PairsFit (gate_rows g) (live_start g) g.live
+  pub saw : AllSawRight (gate_rows g) (live_start g) g.live
   -- the numbers of done entries never fall, the mark is one more than the last of them, and live entries have none
   pub numbers : NumbersRise 0 g.done
   pub mark : g.mark ≡ mark_of 0 g.done
@@ -65,7 +65,7 @@ asked_entry worker iter item call s =
 
 -- the place of the first live entry that is in the way of an entry
 abbrev pub in_way : GateView → Entry → Option ℕ
-in_way g asked = first_failing (rows_of g) (live_start g) g.live asked
+in_way g asked = first_failing (gate_rows g) (live_start g) g.live asked
 
 -- the call is done, and is the last live entry
 abbrev pub admit : GateView → ℕ → ℕ → Item → Call → GateView

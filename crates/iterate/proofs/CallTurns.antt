@@ -13,7 +13,7 @@ use Rattle.gx_base.specs.Steps.{reply_to}
 use Rattle.gx_base.specs.Worklists.{is_before}
 use Rattle.gate_core.specs.declared.refusals.Told.{Told}
 use Rattle.gate_core.specs.CallAnswers.{Tells}
-use Rattle.gate_core.specs.Views.{GateView, asked_entry, in_way, admit, rows_of, live_start}
+use Rattle.gate_core.specs.Views.{GateView, asked_entry, in_way, admit, gate_rows, live_start}
 use Rattle.commit_book.specs.BookViews.{BookView}
 use Rattle.speculation.specs.Events as event
 use Rattle.speculation.specs.Machines.{Place, Turned, answer, conflict, live_at, let_go, named_off, given_up, turn_at}
@@ -235,25 +235,25 @@ module _ {T S St : Type 0} (op : Operator) (a b : RoomsView (Value T S)) (rest :
   abbrev held_at : ℕ → GateView → Entry
   held_at place g = live_at g place (entry_in g)
 
-  conflict_event : (told : Told) (place : ℕ) (was g : GateView) → was ≡ g → Tells (rows_of was) (live_start was) was.live (entry_in was) told place
+  conflict_event : (told : Told) (place : ℕ) (was g : GateView) → was ≡ g → Tells (gate_rows was) (live_start was) was.live (entry_in was) told place
       → event.Conflict room told.held told.asked told.would ≡ event.Conflict room (held_at place g) call (reply_to g.state call)
   conflict_event told place was g here tells =
       let held : told.held ≡ held_at place g = sym (indexed was.live place (entry_in was) told.held tells.held) ∙ ap (held_at place) here in
       let would : told.would ≡ reply_to g.state call = tells.would_is ∙ ap (λ (x : GateView). reply_to x.state call) here in
       λ i. event.Conflict room (held i) (tells.asked_is i) (would i)
 
-  conflict_tells : (told : Told) (place : ℕ) (was g : GateView) → was ≡ g → Tells (rows_of was) (live_start was) was.live (entry_in was) told place
-      → Tells (rows_of g) (live_start g) g.live (asked_entry c.worker c.iter c.item told.asked g.state) told place
+  conflict_tells : (told : Told) (place : ℕ) (was g : GateView) → was ≡ g → Tells (gate_rows was) (live_start was) was.live (entry_in was) told place
+      → Tells (gate_rows g) (live_start g) g.live (asked_entry c.worker c.iter c.item told.asked g.state) told place
   conflict_tells told place was g here tells =
-      subst (λ (x : GateView). Tells (rows_of x) (live_start x) x.live (asked_entry c.worker c.iter c.item told.asked x.state) told place) here
-      (subst (λ (k : CallOf). Tells (rows_of was) (live_start was) was.live (asked_entry c.worker c.iter c.item k was.state) told place) (sym tells.asked_is) tells)
+      subst (λ (x : GateView). Tells (gate_rows x) (live_start x) x.live (asked_entry c.worker c.iter c.item told.asked x.state) told place) here
+      (subst (λ (k : CallOf). Tells (gate_rows was) (live_start was) was.live (asked_entry c.worker c.iter c.item k was.state) told place) (sym tells.asked_is) tells)
 
   given_is : (p : Place) (held : Entry) → p.book.ordered ≡ false
       → (if p.book.ordered && is_before c.item held.item then named_off p asking.at held else given_up p c.worker asking.at) ≡ given_up p c.worker asking.at
   given_is p held e = ap (λ (k : Bool). if k && is_before c.item held.item then named_off p asking.at held else given_up p c.worker asking.at) e
 
   pub conflict_turn : (x : RoomsView (Value T S)) (new : Core) (phase : CodePhase St) → op.ordered ≡ false → IsFit op a asking → (was : GateView) (told : Told) (place : ℕ) → WasVisited a x room was was
-      → Tells (rows_of was) (live_start was) was.live (entry_in was) told place → GaveUp x b c new phase → TakesTurn op a b asking (view_in rest new phase) (Ok (events.Conflict room told))
+      → Tells (gate_rows was) (live_start was) was.live (entry_in was) told place → GaveUp x b c new phase → TakesTurn op a b asking (view_in rest new phase) (Ok (events.Conflict room told))
   conflict_turn x new phase unordered fit was told place visit tells gave_up =
       let s : SessionView = asking in
       let gates : ℕ → GateView = put (base_gates a) room was in

@@ -28,7 +28,7 @@ use Rattle.iterate.specs.declared.events.Event.{Event as CodeEvent}
 use Rattle.iterate.specs.declared.events.Event.TheVariants as events
 use Rattle.iterate.specs.declared.session.Phase.TheVariants as code
 use Rattle.iterate.specs.Places.{IsLogIn, IsLogOf, IsFit, AreStepsWithin, IfTold, no_gate, gate_of}
-use Rattle.iterate.specs.RoomLists.{is_among, rooms_of, steps_in, AreRoomsBelow}
+use Rattle.iterate.specs.RoomLists.{is_room_among, rooms_of, steps_in, AreRoomsBelow}
 use Rattle.iterate.specs.SessionViews.{OpenCommit, Rests, Core, SessionView, view_in}
 use Rattle.iterate.specs.SharedTurns.{Shared, shared_in, released, stays, cut_at, cut_commit, begun_commit, rest_of_commit}
 use Rattle.iterate.specs.TurnMoves.{RoomMoves, at_book, enters_book, releases, moves_by, turn_moves}
@@ -46,9 +46,9 @@ among_by : (n x room : ℕ) (rest : Bool) → x < n → (rest ≡ true → room 
 among_by n x room rest l h true e m = subst (λ k. k < n) (numbers_equal x room e) l
 among_by n x room rest l h false e m = h (sym (ap (λ (b : Bool). b || rest) e) ∙ m)
 
-among_is_below : (n : ℕ) (xs : List ℕ) (room : ℕ) → AreRoomsBelow n xs → is_among xs room ≡ true → room < n
+among_is_below : (n : ℕ) (xs : List ℕ) (room : ℕ) → AreRoomsBelow n xs → is_room_among xs room ≡ true → room < n
 among_is_below n [] room h m = absurd (cc)
-among_is_below n (x ∷ xs) room h m = among_by n x room (is_among xs room) h.0 (among_is_below n xs room h.1) (x == room) refl m
+among_is_below n (x ∷ xs) room h m = among_by n x room (is_room_among xs room) h.0 (among_is_below n xs room h.1) (x == room) refl m
 
 -- a commit and a busy turn tell no state functions
 tells_by : (p : Place) (worker : ℕ) (e : CodeEvent) (n : ℕ) → event_of e ≡ event.Commit n → TellsRight p worker e
@@ -161,7 +161,7 @@ module _ {T S St : Type 0} (op : Operator) (a b : RoomsView (Value T S)) (rest :
     limit = ap (λ (u : Turned). limit_at u.event was (length c.log)) turns ∙ (λ i. if may.not_spent i then Some limits.Spent else (if may.not_past i then Some limits.Kept else None))
 
     -- where the log has no room nothing is released
-    nothing_at : (room : ℕ) → is_among left room ≡ false → (k : Bool) → nat_lt room a.book ≡ k → release (gates room) c.worker c.iter number ≡ gates room
+    nothing_at : (room : ℕ) → is_room_among left room ≡ false → (k : Bool) → nat_lt room a.book ≡ k → release (gates room) c.worker c.iter number ≡ gates room
     nothing_at room e true l =
         let below : room < a.book = grind (arith, nat_tests) in
         let entries : mades_of (entries_of c.worker c.iter (gates room).live) ≡ [] =
@@ -171,12 +171,12 @@ module _ {T S St : Type 0} (op : Operator) (a b : RoomsView (Value T S)) (rest :
         let above : a.book ≤ room = grind (arith, nat_tests) in
         subst (λ (g : GateView). release g c.worker c.iter number ≡ g) (sym (none room above)) (release_nothing c.worker c.iter number no_gate refl)
 
-    release_by : (room : ℕ) (k : Bool) → is_among left room ≡ k → (if k then release (gates room) c.worker c.iter number else gates room) ≡ release (gates room) c.worker c.iter number
+    release_by : (room : ℕ) (k : Bool) → is_room_among left room ≡ k → (if k then release (gates room) c.worker c.iter number else gates room) ≡ release (gates room) c.worker c.iter number
     release_by room true e = refl
     release_by room false e = sym (nothing_at room e (nat_lt room a.book) refl)
 
     all_released : released gates left c.worker c.iter number ≡ (λ room. release (gates room) c.worker c.iter number)
-    all_released = λ i room. release_by room (is_among left room) refl i
+    all_released = λ i room. release_by room (is_room_among left room) refl i
 
     -- ---- the answers
 
@@ -206,7 +206,7 @@ module _ {T S St : Type 0} (op : Operator) (a b : RoomsView (Value T S)) (rest :
     lift_answers t q e (Some room) n h = cut_answers t q e room (n room refl) h
 
   -- a room that is left isn't the book's
-  left_below : (room : ℕ) → is_among left room ≡ true → (a.book == room) ≡ false
+  left_below : (room : ℕ) → is_room_among left room ≡ true → (a.book == room) ≡ false
   left_below room m = other_than_book a.book room (among_is_below a.book left room (subst (λ n. AreRoomsBelow n left) (sym fit.book) (rooms_below op.rooms c.log fit.within)) m)
 
   module _ (unnamed_is : is_named was c.worker c.iter ≡ false) (unordered : was.ordered ≡ false) (may : MayCommit (has_item was.ready c.item) (is_spent was) (is_past_journal was (length c.log))) where
@@ -246,7 +246,7 @@ module _ {T S St : Type 0} (op : Operator) (a b : RoomsView (Value T S)) (rest :
             };
             stands = h.stands;
             found = record {
-              needed = λ room m. or_right (a.book == room) (is_among left room) (h.found.needed room m);
+              needed = λ room m. or_right (a.book == room) (is_room_among left room) (h.found.needed room m);
               risen = h.found.risen;
               others = h.found.others;
             };

@@ -28,7 +28,7 @@ use Rattle.iterate.specs.declared.events.Stop.TheVariants as stops
 use Rattle.iterate.specs.declared.session.Phase.{Phase as CodePhase}
 use Rattle.iterate.specs.declared.session.Phase.TheVariants as code
 use Rattle.iterate.specs.Places.{IsLogIn, IsFit}
-use Rattle.iterate.specs.RoomLists.{is_among, rooms_of}
+use Rattle.iterate.specs.RoomLists.{is_room_among, rooms_of}
 use Rattle.iterate.specs.SessionViews.{Rests, Core, SessionView, view_in}
 use Rattle.iterate.specs.SharedTurns.{Shared, cut_at, cut_commit, begun_commit, stays}
 use Rattle.iterate.specs.TurnMoves.{at_book, enters_book, releases, in_book}
@@ -125,7 +125,7 @@ module _ {T S St : Type 0} (op : Operator) (a b : RoomsView (Value T S)) (rest :
       let p : Place = base_place a finished in
       let shared : cut_at op a.book p c.worker finished.at c.pushed Finished a.book ≡ stays p finished.at c.pushed =
       ap (λ (k : Bool). if k then stays p finished.at c.pushed else (if is_named p.book c.worker c.iter then stays p (undoing finished.at) c.pushed else cut_commit p c.worker finished.at c.pushed (begun_commit p c.worker finished.at) a.book)) (same_number a.book) in
-      lost_turn op a b finished finished a.book loss fit refl refl refl (or_left (a.book == a.book) (is_among (rooms_of c.log) a.book) (same_number a.book)) (λ other es h. h) fit.within (body_of op a finished fit refl) (Ok events.Busy) (
+      lost_turn op a b finished finished a.book loss fit refl refl refl (or_left (a.book == a.book) (is_room_among (rooms_of c.log) a.book) (same_number a.book)) (λ other es h. h) fit.within (body_of op a finished fit refl) (Ok events.Busy) (
         subst (λ (x : Shared). IsAfter x event.Busy finished p) (sym shared) (record { event_is = refl; place_is = refl; opened_is = refl; pushed_is = refl }),
         tt,
         (λ e. absurd (no_bool (a.book == a.book) (same_number a.book) e)),

@@ -10,7 +10,7 @@ use Rattle.gx_base.specs.BodyRuns.{RunsTo}
 use Rattle.gx_base.specs.Plans.{Plan, Call, Push, Done, Operator}
 use Rattle.gx_base.specs.Worklists.{has_item, is_least}
 use Rattle.gate_core.specs.CallAnswers.{Tells}
-use Rattle.gate_core.specs.Views.{GateView, in_way, rows_of, live_start}
+use Rattle.gate_core.specs.Views.{GateView, in_way, gate_rows, live_start}
 use Rattle.commit_book.specs.BookViews.{BookView, is_named}
 use Rattle.speculation.specs.Events as event
 use Rattle.speculation.specs.Events.{Event}
@@ -31,7 +31,7 @@ use Rattle.iterate.specs.declared.session.Phase.TheVariants as code
 use Rattle.iterate.specs.Bodies.{IsAtWork, IsAskedIn, HasAsked, HasGoneOn}
 use Rattle.iterate.specs.Needs.{come_to, gone_on, to_put_back, needs_in, needs}
 use Rattle.iterate.specs.Places.{IsFit, IsBody, IsAskedWithin}
-use Rattle.iterate.specs.RoomLists.{is_among, rooms_of}
+use Rattle.iterate.specs.RoomLists.{is_room_among, rooms_of}
 use Rattle.iterate.specs.SessionViews.{Rests, Core, SessionView, at_in, view_in, phase_of}
 use Rattle.iterate.specs.SharedTurns.{Shared, cut_at, shared_in, given_back, stopped_at, pushes_by}
 use Rattle.iterate.specs.TurnMoves.{turn_moves, StopMoves, in_no_room}
@@ -98,7 +98,7 @@ body_come whole s (Ends t) h = subst (IsBodyIn whole t) (sym h.1) h.0.whole
 needs_gone : (book : ℕ) (s : Session) (plan : Plan) (pushes : List Item) → has_no_step s.outcome.steps ≡ true → needs_in book (come_to (ahead s plan pushes)) None book ≡ true
 needs_gone book s (Call room call goes_on) pushes e = or_right (room == book) (to_put_back book s.outcome.steps book) (both_are (has_no_step s.outcome.steps) (book == book) e (same_number book))
 needs_gone book s (Push item rest) pushes e = needs_gone book s rest (pushes ++ item ∷ []) e
-needs_gone book s Done pushes e = or_left (book == book) (is_among (rooms_of s.outcome.steps) book) (same_number book)
+needs_gone book s Done pushes e = or_left (book == book) (is_room_among (rooms_of s.outcome.steps) book) (same_number book)
 
 -- ---- the turn
 
@@ -158,7 +158,7 @@ module _ {T S : Type 0} (op : Operator) (a b : RoomsView (Value T S)) (c : Core)
       tells_same (events.Take item) h = tt
       tells_same (events.Call room call reply) h = tt
       tells_same (events.Conflict room told) h =
-          (h.0, subst (λ (s : Session). Tells (rows_of (gates room)) (live_start (gates room)) (gates room).live (entry_of before c.worker s room told.asked) told h.0) come_further h.1)
+          (h.0, subst (λ (s : Session). Tells (gate_rows (gates room)) (live_start (gates room)) (gates room).live (entry_of before c.worker s room told.asked) told h.0) come_further h.1)
       tells_same (events.Undo room call) h = tt
       tells_same (events.Commit number) h = tt
       tells_same events.Wait h = tt

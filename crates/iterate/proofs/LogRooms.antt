@@ -13,7 +13,7 @@ use Rattle.gate_core.specs.Entries.{is_of, entries_of, others_than, has_entry, d
 use Rattle.gate_core.specs.Views.{GateView, release}
 use Rattle.speculation.proofs.Putting.{same_number}
 use Rattle.iterate.specs.Places.{AreStepsWithin}
-use Rattle.iterate.specs.RoomLists.{is_among, rooms_of, steps_in, AreAbove, AreRoomsRising, AreRoomsBelow}
+use Rattle.iterate.specs.RoomLists.{is_room_among, rooms_of, steps_in, AreAbove, AreRoomsRising, AreRoomsBelow}
 
 -- ---- a number more
 
@@ -30,13 +30,13 @@ or_swap true false r = refl
 or_swap false q r = refl
 
 module _ (k room : ℕ) where
-  among_by : (x : ℕ) (xs : List ℕ) (o : Ordering) → MatchOrdering o (k < x) (k ≡ x) (x < k) → is_among (with_number xs k) room ≡ ((k == room) || is_among xs room)
-      → is_among (match_ordering o (k ∷ x ∷ xs) (x ∷ xs) (x ∷ with_number xs k)) room ≡ ((k == room) || ((x == room) || is_among xs room))
+  among_by : (x : ℕ) (xs : List ℕ) (o : Ordering) → MatchOrdering o (k < x) (k ≡ x) (x < k) → is_room_among (with_number xs k) room ≡ ((k == room) || is_room_among xs room)
+      → is_room_among (match_ordering o (k ∷ x ∷ xs) (x ∷ xs) (x ∷ with_number xs k)) room ≡ ((k == room) || ((x == room) || is_room_among xs room))
   among_by x xs Less h i = refl
-  among_by x xs Equal h i = or_twice (x == room) (is_among xs room) ∙ ap (λ n. (n == room) || ((x == room) || is_among xs room)) (sym h)
-  among_by x xs Greater h i = ap (λ (b : Bool). (x == room) || b) i ∙ or_swap (x == room) (k == room) (is_among xs room)
+  among_by x xs Equal h i = or_twice (x == room) (is_room_among xs room) ∙ ap (λ n. (n == room) || ((x == room) || is_room_among xs room)) (sym h)
+  among_by x xs Greater h i = ap (λ (b : Bool). (x == room) || b) i ∙ or_swap (x == room) (k == room) (is_room_among xs room)
 
-  among_with : (xs : List ℕ) → is_among (with_number xs k) room ≡ ((k == room) || is_among xs room)
+  among_with : (xs : List ℕ) → is_room_among (with_number xs k) room ≡ ((k == room) || is_room_among xs room)
   among_with [] = refl
   among_with (x ∷ xs) = among_by x xs (nat_cmp k x) (ranked k x (nat_cmp k x) refl) (among_with xs)
 
@@ -86,7 +86,7 @@ rooms_below n (x ∷ xs) h = below_with x.room n h.0 (rooms_of xs) (rooms_below 
 -- each step is in one of some rooms
 abbrev AreIn : List ℕ → List Step → Type 0
 AreIn rooms [] = ⊤
-AreIn rooms (x ∷ xs) = (is_among rooms x.room ≡ true) × AreIn rooms xs
+AreIn rooms (x ∷ xs) = (is_room_among rooms x.room ≡ true) × AreIn rooms xs
 
 or_second : (p q : Bool) → q ≡ true → (p || q) ≡ true
 or_second true q e = refl
@@ -94,10 +94,10 @@ or_second false q e = e
 
 in_more : (rooms : List ℕ) (k : ℕ) (steps : List Step) → AreIn rooms steps → AreIn (with_number rooms k) steps
 in_more rooms k [] h = tt
-in_more rooms k (x ∷ xs) h = (among_with k x.room rooms ∙ or_second (k == x.room) (is_among rooms x.room) h.0, in_more rooms k xs h.1)
+in_more rooms k (x ∷ xs) h = (among_with k x.room rooms ∙ or_second (k == x.room) (is_room_among rooms x.room) h.0, in_more rooms k xs h.1)
 
-first_in : (rooms : List ℕ) (k : ℕ) → is_among (with_number rooms k) k ≡ true
-first_in rooms k = among_with k k rooms ∙ ap (λ (b : Bool). b || is_among rooms k) (same_number k)
+first_in : (rooms : List ℕ) (k : ℕ) → is_room_among (with_number rooms k) k ≡ true
+first_in rooms k = among_with k k rooms ∙ ap (λ (b : Bool). b || is_room_among rooms k) (same_number k)
 
 all_in : (steps : List Step) → AreIn (rooms_of steps) steps
 all_in [] = tt

@@ -6,7 +6,7 @@ use Rattle.speculation.specs.Events.{Event}
 use Rattle.speculation.specs.Limits.{Limit, limit_in, or_later, limit_of_alone}
 use Rattle.speculation.specs.Machines.{Machine, turn}
 use Rattle.speculation.specs.Premises.{AloneAsk}
-use Rattle.speculation.specs.ScheduledRuns.{is_empty, alone}
+use Rattle.speculation.specs.ScheduledRuns.{is_empty, lone_run}
 use Rattle.iterate.specs.declared.events.Stop.{Stop}
 use Rattle.iterate.specs.PlayedTurns.{IsTurn, IsStoppedTurn, IsEmptiedAlone}
 use Rattle.iterate.specs.Plays.{stop_of}
@@ -16,7 +16,7 @@ use Rattle.iterate.proofs.Schedules.{stop_cause}
 -- so many turns lead from the first machine to the second
 pub record LeadsTo (op : Operator) (first now : Machine) : Type 0 where
   pub turns : ℕ
-  pub machine : (more : ℕ) → alone op first (turns + more) ≡ alone op now more
+  pub machine : (more : ℕ) → lone_run op first (turns + more) ≡ lone_run op now more
   pub limit : (more : ℕ) → limit_of_alone op first (turns + more) ≡ limit_of_alone op now more
   pub asks : (more : ℕ) → AloneAsk op now more → AloneAsk op first (turns + more)
 
@@ -24,7 +24,7 @@ module _ (op : Operator) where
   pub leads_nowhere : (m : Machine) → LeadsTo op m m
   leads_nowhere m = record {
     turns = 0;
-    machine = λ more. ap (alone op m) (none_more more);
+    machine = λ more. ap (lone_run op m) (none_more more);
     limit = λ more. ap (limit_of_alone op m) (none_more more);
     asks = λ more h. subst (AloneAsk op m) (sym (none_more more)) h;
   }
@@ -32,9 +32,9 @@ module _ (op : Operator) where
       none_more : (more : ℕ) → 0 + more ≡ more
       none_more more = omega arith
 
-  pub one_alone : (m : Machine) (n : ℕ) → is_empty m.book.ready ≡ false → alone op m (suc n) ≡ alone op (turn op m 0) n
-  unfolding alone
-  one_alone m n e = ap (λ (b : Bool). if b then m else alone op (turn op m 0) n) e
+  pub one_alone : (m : Machine) (n : ℕ) → is_empty m.book.ready ≡ false → lone_run op m (suc n) ≡ lone_run op (turn op m 0) n
+  unfolding lone_run
+  one_alone m n e = ap (λ (b : Bool). if b then m else lone_run op (turn op m 0) n) e
 
   pub one_limited_alone : (m : Machine) (n : ℕ) → is_empty m.book.ready ≡ false → limit_of_alone op m (suc n) ≡ or_later (limit_in op m 0) (limit_of_alone op (turn op m 0) n)
   unfolding limit_of_alone
@@ -47,14 +47,14 @@ module _ (op : Operator) where
   pub leads_one_more : (first now after : Machine) (event : Event) → LeadsTo op first now → is_empty now.book.ready ≡ false → IsTurn op now after 0 event → LeadsTo op first after
   leads_one_more first now after event h e t = record {
     turns = suc h.turns;
-    machine = λ more. ap (alone op first) (one_further h.turns more) ∙ h.machine (suc more) ∙ one_alone now more e ∙ ap (λ m. alone op m more) (sym t.machine_is);
+    machine = λ more. ap (lone_run op first) (one_further h.turns more) ∙ h.machine (suc more) ∙ one_alone now more e ∙ ap (λ m. lone_run op m more) (sym t.machine_is);
     limit = λ more. ap (limit_of_alone op first) (one_further h.turns more) ∙ h.limit (suc more) ∙ one_limited_alone now more e
         ∙ ap (λ (o : Option Limit). or_later o (limit_of_alone op (turn op now 0) more)) t.unlimited ∙ ap (λ m. limit_of_alone op m more) (sym t.machine_is);
     asks = λ more k. subst (AloneAsk op first) (sym (one_further h.turns more)) (h.asks (suc more) (λ _. (t.asks, subst (λ m. AloneAsk op m more) t.machine_is k)));
   }
 
-  no_turn : (m : Machine) → alone op m 0 ≡ m
-  unfolding alone
+  no_turn : (m : Machine) → lone_run op m 0 ≡ m
+  unfolding lone_run
   no_turn m = refl
 
   no_limit : (m : Machine) → limit_of_alone op m 0 ≡ None

@@ -14,7 +14,7 @@ use Rattle.rooms.specs.declared.values.Value.{Value}
 use Rattle.rooms.specs.declared.values.Value.TheVariants.{Object}
 use Rattle.rooms.proofs.CallerLemmas.{put_same, put_other, put_back_again, held_entered, held_elsewhere, mark_entered_here, commits_entered_elsewhere}
 use Rattle.iterate.specs.Places.{no_gate, gate_of, IfTold}
-use Rattle.iterate.specs.RoomLists.{is_among, rest_of, AreAbove, AreRoomsRising, AreRoomsBelow}
+use Rattle.iterate.specs.RoomLists.{is_room_among, rooms_after_first, AreAbove, AreRoomsRising, AreRoomsBelow}
 use Rattle.iterate.specs.Visits.{MayLeaveGate, WasVisited, AreReleased, MayRelease}
 use Rattle.iterate.specs.TurnMoves.{gates_visited}
 use Rattle.iterate.proofs.MovedGates.{visited_then, visited_same}
@@ -27,12 +27,12 @@ both_false : (p q : Bool) → (p || q) ≡ false → (p ≡ false) × (q ≡ fal
 both_false true q e = absurd (cc)
 both_false false q e = (refl, e)
 
-pub among_append : (xs : List ℕ) (x room : ℕ) → is_among (xs ++ x ∷ []) room ≡ (is_among xs room || (x == room))
+pub among_append : (xs : List ℕ) (x room : ℕ) → is_room_among (xs ++ x ∷ []) room ≡ (is_room_among xs room || (x == room))
 among_append [] x room = or_none (x == room) where
   or_none : (b : Bool) → (b || false) ≡ b
   or_none true = refl
   or_none false = refl
-among_append (y ∷ ys) x room = ap (λ (b : Bool). (y == room) || b) (among_append ys x room) ∙ or_assoc (y == room) (is_among ys room) (x == room) where
+among_append (y ∷ ys) x room = ap (λ (b : Bool). (y == room) || b) (among_append ys x room) ∙ or_assoc (y == room) (is_room_among ys room) (x == room) where
   or_assoc : (p q r : Bool) → (p || (q || r)) ≡ ((p || q) || r)
   or_assoc true q r = refl
   or_assoc false q r = refl
@@ -46,16 +46,16 @@ not_first x room rest l h true e = let same : x ≡ room = numbers_equal x room 
 not_first x room rest l h false e = ap (λ (b : Bool). b || rest) e ∙ h
 
 -- a room of a rising list isn't among those before it
-pub not_in_front : (front : List ℕ) (room : ℕ) (rest : List ℕ) → AreRoomsRising (front ++ room ∷ rest) → is_among front room ≡ false
+pub not_in_front : (front : List ℕ) (room : ℕ) (rest : List ℕ) → AreRoomsRising (front ++ room ∷ rest) → is_room_among front room ≡ false
 not_in_front [] room rest h = refl
-not_in_front (x ∷ xs) room rest h = not_first x room (is_among xs room) (above_append x xs room rest h.0) (not_in_front xs room rest h.1) (x == room) refl
+not_in_front (x ∷ xs) room rest h = not_first x room (is_room_among xs room) (above_append x xs room rest h.0) (not_in_front xs room rest h.1) (x == room) refl
 
 pub below_at : (n : ℕ) (front : List ℕ) (room : ℕ) (rest : List ℕ) → AreRoomsBelow n (front ++ room ∷ rest) → room < n
 below_at n [] room rest h = h.0
 below_at n (x ∷ xs) room rest h = below_at n xs room rest h.1
 
-pub among_at : (front : List ℕ) (room : ℕ) (rest : List ℕ) → is_among (front ++ room ∷ rest) room ≡ true
-among_at [] room rest = ap (λ (b : Bool). b || is_among rest room) (same_number room)
+pub among_at : (front : List ℕ) (room : ℕ) (rest : List ℕ) → is_room_among (front ++ room ∷ rest) room ≡ true
+among_at [] room rest = ap (λ (b : Bool). b || is_room_among rest room) (same_number room)
 among_at (x ∷ xs) room rest = ap (λ (b : Bool). (x == room) || b) (among_at xs room rest) ∙ or_true (x == room) where
   or_true : (b : Bool) → (b || true) ≡ true
   or_true true = refl
@@ -81,7 +81,7 @@ module _ {T S : Type 0} (worker iter number : ℕ) where
   -- ---- one room more
 
   module _ (a x y : RoomsView (Value T S)) (front : List ℕ) (room : ℕ) (was : GateView) (h : AreReleased a x worker iter number front) (visit : WasVisited x y room was (release was worker iter number))
-      (new : is_among front room ≡ false) (below : room < a.book) (free : is_held x room ≡ false) where
+      (new : is_room_among front room ≡ false) (below : room < a.book) (free : is_held x room ≡ false) where
     abbrev now : GateView
     now = release was worker iter number
 
@@ -105,11 +105,11 @@ module _ {T S : Type 0} (worker iter number : ℕ) where
     abbrev more : List ℕ
     more = front ++ room ∷ []
 
-    here : is_among more room ≡ true
+    here : is_room_among more room ≡ true
     here = among_at front room []
 
-    there : (other : ℕ) → (room == other) ≡ false → is_among more other ≡ is_among front other
-    there other e = among_append front room other ∙ ap (λ (b : Bool). is_among front other || b) e ∙ or_none (is_among front other) where
+    there : (other : ℕ) → (room == other) ≡ false → is_room_among more other ≡ is_room_among front other
+    there other e = among_append front room other ∙ ap (λ (b : Bool). is_room_among front other || b) e ∙ or_none (is_room_among front other) where
       or_none : (b : Bool) → (b || false) ≡ b
       or_none true = refl
       or_none false = refl
@@ -123,14 +123,14 @@ module _ {T S : Type 0} (worker iter number : ℕ) where
     x_told : x.told room ≡ a.told room
     x_told = h.told room ∙ ap (λ (b : Bool). if b then told_with (a.told room) (Object (release (h.was room) worker iter number)) else a.told room) new
 
-    entries_at : (other : ℕ) → is_among more other ≡ true → (c : Bool) → (room == other) ≡ c → entries_for a.acts_for (gates_now other).live ≡ a.live other
+    entries_at : (other : ℕ) → is_room_among more other ≡ true → (c : Bool) → (room == other) ≡ c → entries_for a.acts_for (gates_now other).live ≡ a.live other
     unfolding gates_now
     entries_at other m true e =
         subst (λ n. entries_for a.acts_for (put h.was room was n).live ≡ a.live n) (numbers_equal room other e)
         ((λ i. entries_for (sym h.acts_for i) (put_same h.was room was i).live) ∙ visit.handed.live refl ∙ x_live)
     entries_at other m false e = ap (λ (g : GateView). entries_for a.acts_for g.live) (put_other h.was room was other e) ∙ h.entries other (sym (there other e) ∙ m)
 
-    gates_at : (other : ℕ) → is_among more other ≡ true → (c : Bool) → (room == other) ≡ c → IfTold (a.told other) (λ value. gates_now other ≡ gate_of value)
+    gates_at : (other : ℕ) → is_room_among more other ≡ true → (c : Bool) → (room == other) ≡ c → IfTold (a.told other) (λ value. gates_now other ≡ gate_of value)
     unfolding gates_now
     gates_at other m true e =
         subst (λ n. IfTold (a.told n) (λ value. put h.was room was n ≡ gate_of value)) (numbers_equal room other e)
@@ -138,20 +138,20 @@ module _ {T S : Type 0} (worker iter number : ℕ) where
         (subst (λ (o : Option (Value T S)). IfTold o (λ value. was ≡ gate_of value)) x_told (told_gate (x.told room) was visit.handed.told)))
     gates_at other m false e = subst (λ (g : GateView). IfTold (a.told other) (λ value. g ≡ gate_of value)) (sym (put_other h.was room was other e)) (h.gates other (sym (there other e) ∙ m))
 
-    live_at : (other : ℕ) → (c : Bool) → (room == other) ≡ c → y.live other ≡ (if is_among more other then entries_for a.acts_for (release (gates_now other) worker iter number).live else a.live other)
+    live_at : (other : ℕ) → (c : Bool) → (room == other) ≡ c → y.live other ≡ (if is_room_among more other then entries_for a.acts_for (release (gates_now other) worker iter number).live else a.live other)
     unfolding gates_now
     live_at other true e =
-        subst (λ n. y.live n ≡ (if is_among more n then entries_for a.acts_for (release (put h.was room was n) worker iter number).live else a.live n)) (numbers_equal room other e)
+        subst (λ n. y.live n ≡ (if is_room_among more n then entries_for a.acts_for (release (put h.was room was n) worker iter number).live else a.live n)) (numbers_equal room other e)
         (y_of (λ v. v.live room) ∙ put_same x.live room (entries_for x.acts_for now.live) ∙ (λ i. entries_for (h.acts_for i) (release (sym (put_same h.was room was) i) worker iter number).live)
         ∙ sym (ap (λ (b : Bool). if b then entries_for a.acts_for (release (put h.was room was room) worker iter number).live else a.live room) here))
     live_at other false e =
         y_of (λ v. v.live other) ∙ put_other x.live room _ other e ∙ h.live other
         ∙ (λ i. if sym (there other e) i then entries_for a.acts_for (release (sym (put_other h.was room was other e) i) worker iter number).live else a.live other)
 
-    told_at : (other : ℕ) → (c : Bool) → (room == other) ≡ c → y.told other ≡ (if is_among more other then told_with (a.told other) (Object (release (gates_now other) worker iter number)) else a.told other)
+    told_at : (other : ℕ) → (c : Bool) → (room == other) ≡ c → y.told other ≡ (if is_room_among more other then told_with (a.told other) (Object (release (gates_now other) worker iter number)) else a.told other)
     unfolding gates_now
     told_at other true e =
-        subst (λ n. y.told n ≡ (if is_among more n then told_with (a.told n) (Object (release (put h.was room was n) worker iter number)) else a.told n)) (numbers_equal room other e)
+        subst (λ n. y.told n ≡ (if is_room_among more n then told_with (a.told n) (Object (release (put h.was room was n) worker iter number)) else a.told n)) (numbers_equal room other e)
         (y_of (λ v. v.told room) ∙ put_same x.told room (told_with (x.told room) (Object now)) ∙ (λ i. told_with (x_told i) (Object (release (sym (put_same h.was room was) i) worker iter number)))
         ∙ sym (ap (λ (b : Bool). if b then told_with (a.told room) (Object (release (put h.was room was room) worker iter number)) else a.told room) here))
     told_at other false e =
@@ -165,9 +165,9 @@ module _ {T S : Type 0} (worker iter number : ℕ) where
     entered_released : (entered tells x room (Object was)).released ≡ x.released
     entered_released = ap (λ (b : Bool). if b then nowhere else x.released) not_book
 
-    released_at : (other : ℕ) → is_among more other ≡ false → y.released other ≡ a.released other
+    released_at : (other : ℕ) → is_room_among more other ≡ false → y.released other ≡ a.released other
     released_at other m =
-        let parts : (is_among front other ≡ false) × ((room == other) ≡ false) = both_false (is_among front other) (room == other) (sym (among_append front room other) ∙ m) in
+        let parts : (is_room_among front other ≡ false) × ((room == other) ≡ false) = both_false (is_room_among front other) (room == other) (sym (among_append front room other) ∙ m) in
         y_of (λ v. v.released other)
         ∙ ap (λ f. (if room == x.book then nowhere else (if is_release (entered tells x room (Object was)) now.mark then put f room true else f)) other) entered_released
         ∙ released_by other parts.1 (is_release (entered tells x room (Object was)) now.mark) ∙ h.released other parts.0
@@ -175,11 +175,11 @@ module _ {T S : Type 0} (worker iter number : ℕ) where
     abbrev gone : (ℕ → GateView) → ℕ → GateView
     gone gates other = release (gates other) worker iter number
 
-    apart_by : (other : ℕ) → is_among front other ≡ true → (c : Bool) → (room == other) ≡ c → (room == other) ≡ false
-    apart_by other m true e = absurd (no_bool (is_among front other) m (subst (λ n. is_among front n ≡ false) (numbers_equal room other e) new))
+    apart_by : (other : ℕ) → is_room_among front other ≡ true → (c : Bool) → (room == other) ≡ c → (room == other) ≡ false
+    apart_by other m true e = absurd (no_bool (is_room_among front other) m (subst (λ n. is_room_among front n ≡ false) (numbers_equal room other e) new))
     apart_by other m false e = e
 
-    same_gate : (other : ℕ) → is_among front other ≡ true → h.was other ≡ gates_now other
+    same_gate : (other : ℕ) → is_room_among front other ≡ true → h.was other ≡ gates_now other
     unfolding gates_now
     same_gate other m = sym (put_other h.was room was other (apart_by other m (room == other) refl))
 
@@ -213,7 +213,7 @@ module _ {T S : Type 0} (worker iter number : ℕ) where
   -- ---- that the gate of a room may be released and left
 
   module _ (a x : RoomsView (Value T S)) (front : List ℕ) (room : ℕ) (rest : List ℕ) (h : AreReleased a x worker iter number front) (may : MayRelease a number (front ++ room ∷ rest)) where
-    new_room : is_among front room ≡ false
+    new_room : is_room_among front room ≡ false
     new_room = not_in_front front room rest may.rising
 
     pub room_below : room < a.book
@@ -262,10 +262,10 @@ module _ {T S : Type 0} (worker iter number : ℕ) where
 
 -- ---- the rooms of a loop
 
-pub may_at : {V : Type 0} (a : RoomsView V) (number : ℕ) (all front rooms : List ℕ) (room : ℕ) → all ≡ front ++ rooms → rooms ≡ room ∷ rest_of rooms → MayRelease a number all → MayRelease a number (front ++ room ∷ rest_of rooms)
+pub may_at : {V : Type 0} (a : RoomsView V) (number : ℕ) (all front rooms : List ℕ) (room : ℕ) → all ≡ front ++ rooms → rooms ≡ room ∷ rooms_after_first rooms → MayRelease a number all → MayRelease a number (front ++ room ∷ rooms_after_first rooms)
 may_at a number all front rooms room e f h = subst (MayRelease a number) (e ∙ ap (λ (xs : List ℕ). front ++ xs) f) h
 
-pub split_on : (all front rooms : List ℕ) (room : ℕ) (now : List ℕ) → all ≡ front ++ rooms → rooms ≡ room ∷ rest_of rooms → now ≡ rest_of rooms → all ≡ (front ++ room ∷ []) ++ now
+pub split_on : (all front rooms : List ℕ) (room : ℕ) (now : List ℕ) → all ≡ front ++ rooms → rooms ≡ room ∷ rooms_after_first rooms → now ≡ rooms_after_first rooms → all ≡ (front ++ room ∷ []) ++ now
 split_on all front rooms room now e f n =
     e ∙ ap (λ (xs : List ℕ). front ++ xs) (f ∙ ap (λ (xs : List ℕ). room ∷ xs) (sym n)) ∙ sym (append_assoc front (room ∷ []) now)
 

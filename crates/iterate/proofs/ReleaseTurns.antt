@@ -24,7 +24,7 @@ use Rattle.iterate.specs.declared.events.Event.TheVariants as events
 use Rattle.iterate.specs.declared.session.Phase.TheVariants as code
 use Rattle.iterate.specs.Needs.{needs}
 use Rattle.iterate.specs.Places.{IsLogIn, IsLogOf, IsFit, IsFitIn, IsCommitOf, AreStepsWithin, IfTold, gate_of, book_of, IsBookIn, StandsOn}
-use Rattle.iterate.specs.RoomLists.{is_among, steps_in, before, on_from, AreRoomsRising, AreRoomsBelow}
+use Rattle.iterate.specs.RoomLists.{is_room_among, steps_in, before, on_from, AreRoomsRising, AreRoomsBelow}
 use Rattle.iterate.specs.SessionViews.{OpenCommit, Rests, Core, SessionView, view_in}
 use Rattle.iterate.specs.SharedTurns.{released}
 use Rattle.iterate.specs.TurnMoves.{RoomMoves, gates_visited}
@@ -43,26 +43,26 @@ module _ {T S : Type 0} (op : Operator) (a mid b : RoomsView (Value T S)) (s t :
     (its_iter : iter ≡ s.at.iter) (below : AreRoomsBelow a.book front) where
   -- the gates before the releases and after them
   pub gates_then : ℕ → GateView
-  gates_then room = if is_among front room then h.was room else base_gates a room
+  gates_then room = if is_room_among front room then h.was room else base_gates a room
 
-  then_was : (room : ℕ) → is_among front room ≡ true → gates_then room ≡ h.was room
+  then_was : (room : ℕ) → is_room_among front room ≡ true → gates_then room ≡ h.was room
   unfolding gates_then
   then_was room e = ap (λ (c : Bool). if c then h.was room else base_gates a room) e
 
-  then_base : (room : ℕ) → is_among front room ≡ false → gates_then room ≡ base_gates a room
+  then_base : (room : ℕ) → is_room_among front room ≡ false → gates_then room ≡ base_gates a room
   unfolding gates_then
   then_base room e = ap (λ (c : Bool). if c then h.was room else base_gates a room) e
 
-  beyond_front : (room : ℕ) → a.book ≤ room → is_among front room ≡ false
+  beyond_front : (room : ℕ) → a.book ≤ room → is_room_among front room ≡ false
   beyond_front room l = not_among a.book front room below l
 
   -- ---- where the session stands before
 
-  told_by : (room : ℕ) → room < a.book → (c : Bool) → is_among front room ≡ c → IfTold (a.told room) (λ value. gates_then room ≡ gate_of value)
+  told_by : (room : ℕ) → room < a.book → (c : Bool) → is_room_among front room ≡ c → IfTold (a.told room) (λ value. gates_then room ≡ gate_of value)
   told_by room l true e = subst (λ (g : GateView). IfTold (a.told room) (λ value. g ≡ gate_of value)) (sym (then_was room e)) (h.gates room e)
   told_by room l false e = subst (λ (g : GateView). IfTold (a.told room) (λ value. g ≡ gate_of value)) (sym (then_base room e)) (base_gates_told op a s fit room l)
 
-  log_by : (room : ℕ) → room < a.book → (c : Bool) → is_among front room ≡ c → IsLogOf room s (gates_then room).live
+  log_by : (room : ℕ) → room < a.book → (c : Bool) → is_room_among front room ≡ c → IsLogOf room s (gates_then room).live
   log_by room l true e =
       subst (λ (g : GateView). IsLogOf room s g.live) (sym (then_was room e))
       (log_shown a.acts_for s.worker s.at.iter s.at.item fit.acts room s.at.outcome.steps (h.was room).live (subst (IsLogOf room s) (sym (h.entries room e)) (fit.live room l)))
@@ -71,31 +71,31 @@ module _ {T S : Type 0} (op : Operator) (a mid b : RoomsView (Value T S)) (s t :
   pub release_stands : (bk : BookView) → IsBookIn a s.opened bk → bk.ordered ≡ a.ordered → StandsOn a s (record { gates = gates_then; book = bk; session = s.at })
   release_stands bk in_book o = record {
     session_is = refl;
-    gates = λ room l. told_by room l (is_among front room) refl;
+    gates = λ room l. told_by room l (is_room_among front room) refl;
     no_others = λ room l. then_base room (beyond_front room l) ∙ base_no_others op a s fit room l;
-    logs = λ room l. log_by room l (is_among front room) refl;
+    logs = λ room l. log_by room l (is_room_among front room) refl;
     book = in_book;
     ordered = o;
   }
 
   -- ---- what becomes of the rooms
 
-  q_released : (room : ℕ) → is_among front room ≡ true → released gates_then front s.worker iter number room ≡ release (h.was room) s.worker iter number
+  q_released : (room : ℕ) → is_room_among front room ≡ true → released gates_then front s.worker iter number room ≡ release (h.was room) s.worker iter number
   q_released room e = ap (λ (c : Bool). if c then release (gates_then room) s.worker iter number else gates_then room) e ∙ ap (λ g. release g s.worker iter number) (then_was room e)
 
   -- the gates were entered and left so
   pub release_moves : (moves : RoomMoves T S) → gates_visited h.was (λ room. release (h.was room) s.worker iter number) front moves ≡ gates_visited gates_then (released gates_then front s.worker iter number) front moves
   release_moves moves = visited_same h.was (λ room. release (h.was room) s.worker iter number) gates_then (released gates_then front s.worker iter number) front (λ room e. sym (then_was room e)) (λ room e. sym (q_released room e)) moves
 
-  module _ (same_iter : t.at.iter ≡ s.at.iter) (same_item : t.at.item ≡ s.at.item) (same : t.worker ≡ s.worker) (gone : (room : ℕ) → is_among front room ≡ true → part room t.at.outcome.steps ≡ [])
-      (stay : (room : ℕ) → is_among front room ≡ false → part room t.at.outcome.steps ≡ part room s.at.outcome.steps) (bk now : BookView) where
+  module _ (same_iter : t.at.iter ≡ s.at.iter) (same_item : t.at.item ≡ s.at.item) (same : t.worker ≡ s.worker) (gone : (room : ℕ) → is_room_among front room ≡ true → part room t.at.outcome.steps ≡ [])
+      (stay : (room : ℕ) → is_room_among front room ≡ false → part room t.at.outcome.steps ≡ part room s.at.outcome.steps) (bk now : BookView) where
     abbrev p : Place
     p = record { gates = gates_then; book = bk; session = s.at }
 
     abbrev q : Place
     q = record { gates = released gates_then front s.worker iter number; book = now; session = t.at }
 
-    q_kept : (room : ℕ) → is_among front room ≡ false → released gates_then front s.worker iter number room ≡ gates_then room
+    q_kept : (room : ℕ) → is_room_among front room ≡ false → released gates_then front s.worker iter number room ≡ gates_then room
     q_kept room e = ap (λ (c : Bool). if c then release (gates_then room) s.worker iter number else gates_then room) e
 
     b_live : (room : ℕ) → room < a.book → b.live room ≡ mid.live room
@@ -110,7 +110,7 @@ module _ {T S : Type 0} (op : Operator) (a mid b : RoomsView (Value T S)) (s t :
         (subst (λ i. IsLogIn room s.worker i t.at.item t.at.outcome.steps es) (sym same_iter)
         (subst (λ x. IsLogIn room s.worker s.at.iter x t.at.outcome.steps es) (sym same_item) (record { current = k.current; entries = k.entries ∙ sym e })))
 
-    released_log : (room : ℕ) → room < a.book → is_among front room ≡ true → IsLogOf room t (release (h.was room) s.worker iter number).live
+    released_log : (room : ℕ) → room < a.book → is_room_among front room ≡ true → IsLogOf room t (release (h.was room) s.worker iter number).live
     released_log room l e =
         let was_log : IsLogOf room s (h.was room).live = subst (λ (g : GateView). IsLogOf room s g.live) (then_was room e) (log_by room l true e) in
         let k : IsLogIn room s.worker s.at.iter s.at.item [] (release (h.was room) s.worker s.at.iter number).live =
@@ -121,7 +121,7 @@ module _ {T S : Type 0} (op : Operator) (a mid b : RoomsView (Value T S)) (s t :
         (subst (λ i. IsLogIn room s.worker i t.at.item t.at.outcome.steps (release (h.was room) s.worker iter number).live) (sym same_iter)
         (subst (λ x. IsLogIn room s.worker s.at.iter x t.at.outcome.steps (release (h.was room) s.worker iter number).live) (sym same_item) (record { current = k_iter.current; entries = k_iter.entries ∙ sym (gone room e) })))
 
-    room_by : (room : ℕ) → room < a.book → (c : Bool) → is_among front room ≡ c → RoomKept a b s t p q room ⊎ GateLeft a b s t p q room
+    room_by : (room : ℕ) → room < a.book → (c : Bool) → is_room_among front room ≡ c → RoomKept a b s t p q room ⊎ GateLeft a b s t p q room
     room_by room l true e = inr (record {
       live =
           b_live room l ∙ h.live room ∙ ap (λ (c : Bool). if c then entries_for a.acts_for (release (h.was room) s.worker iter number).live else a.live room) e
@@ -153,17 +153,17 @@ module _ {T S : Type 0} (op : Operator) (a mid b : RoomsView (Value T S)) (s t :
       ordered_told = λ l.
           let m : OrderedTold a.book a.ordered mid.told = subst (λ (o : Option (Value T S)). IfTold o (λ value. (book_of value).ordered ≡ a.ordered)) (sym mid_book_told) l in
           carried a.book mid.book a.ordered mid.ordered mid.told b.told h.book h.ordered after.ordered_told m;
-      rooms = λ room l. room_by room l (is_among front room) refl;
+      rooms = λ room l. room_by room l (is_room_among front room) refl;
       beyond = λ room l. q_kept room (beyond_front room l);
     }
 
-other_by : (front now : List ℕ) (r : ℕ) → AreRoomsRising (front ++ now) → is_among now r ≡ true → (b : Bool) → is_among front r ≡ b → is_among front r ≡ false
-other_by front now r h m true e = absurd (no_bool (is_among now r) m (apart front now r h e))
+other_by : (front now : List ℕ) (r : ℕ) → AreRoomsRising (front ++ now) → is_room_among now r ≡ true → (b : Bool) → is_room_among front r ≡ b → is_room_among front r ≡ false
+other_by front now r h m true e = absurd (no_bool (is_room_among now r) m (apart front now r h e))
 other_by front now r h m false e = e
 
 -- a room of the rest isn't among the first ones
-other_part : (front now : List ℕ) (r : ℕ) → AreRoomsRising (front ++ now) → is_among now r ≡ true → is_among front r ≡ false
-other_part front now r h m = other_by front now r h m (is_among front r) refl
+other_part : (front now : List ℕ) (r : ℕ) → AreRoomsRising (front ++ now) → is_room_among now r ≡ true → is_room_among front r ≡ false
+other_part front now r h m = other_by front now r h m (is_room_among front r) refl
 
 -- ---- the turns
 
@@ -191,7 +191,7 @@ module _ {T S St : Type 0} (op : Operator) (a b : RoomsView (Value T S)) (rest :
   below_of fit = subst (λ n. AreRoomsBelow n left) (sym fit.book) (commit_of fit).below
 
   -- what the steps of the session are in a room
-  part_left : (room : ℕ) → part room steps ≡ (if is_among left room then part room c.log else [])
+  part_left : (room : ℕ) → part room steps ≡ (if is_room_among left room then part room c.log else [])
   part_left room = part_in left room c.log
 
   -- ---- every room was released
@@ -239,7 +239,7 @@ module _ {T S St : Type 0} (op : Operator) (a b : RoomsView (Value T S)) (rest :
       let gates : ℕ → GateView = gates_then op a mid b s t left c.iter number fit h after refl below in
       let p : Place = record { gates = gates; book = book; session = s.at } in
       let q : Place = record { gates = released gates left c.worker c.iter number; book = book; session = t.at } in
-      let stay : (room : ℕ) → is_among left room ≡ false → part room [] ≡ part room steps = λ room e. sym (part_left room ∙ ap (λ (k : Bool). if k then part room c.log else []) e) in
+      let stay : (room : ℕ) → is_room_among left room ≡ false → part room [] ≡ part room steps = λ room e. sym (part_left room ∙ ap (λ (k : Bool). if k then part room c.log else []) e) in
       let l : AreLeft a b s t p q = release_left op a mid b s t left c.iter number fit h after refl below refl refl refl (λ room e. refl) stay book book in
       record {
         has_turned =
@@ -253,7 +253,7 @@ module _ {T S St : Type 0} (op : Operator) (a b : RoomsView (Value T S)) (rest :
 
   -- ---- a room was held
 
-  cut_fits : (now front : List ℕ) (mid : RoomsView (Value T S)) (room : ℕ) → IsFit op a making → IsCommitOf op making made → left ≡ front ++ now → AreRoomsRising (front ++ now) → ((r : ℕ) → is_among now r ≡ true → is_among left r ≡ true)
+  cut_fits : (now front : List ℕ) (mid : RoomsView (Value T S)) (room : ℕ) → IsFit op a making → IsCommitOf op making made → left ≡ front ++ now → AreRoomsRising (front ++ now) → ((r : ℕ) → is_room_among now r ≡ true → is_room_among left r ≡ true)
       → AreReleased a mid c.worker c.iter number front → IsLost mid b room → IsFitIn op b (view_in rest c (code.Committing book number now)) (Some (record { book = book; number = number; left = now }))
   cut_fits now front mid room fit k parts rising fewer h loss =
       let held : b.held ≡ a.held = ap (λ (v : RoomsView (Value T S)). v.held) loss.same ∙ h.held in
@@ -286,14 +286,14 @@ module _ {T S St : Type 0} (op : Operator) (a b : RoomsView (Value T S)) (rest :
       let parts : left ≡ h.front ++ now = h.rooms_are ∙ ap (λ (xs : List ℕ). h.front ++ xs) (sym h.left_is) in
       let rising : AreRoomsRising (h.front ++ now) = subst AreRoomsRising parts k.rising in
       let below : AreRoomsBelow a.book h.front = below_front a.book h.front now (subst (AreRoomsBelow a.book) parts (below_of fit)) in
-      let new : is_among h.front h.room ≡ false = not_in_front h.front h.room h.rest (subst AreRoomsRising h.rooms_are k.rising) in
+      let new : is_room_among h.front h.room ≡ false = not_in_front h.front h.room h.rest (subst AreRoomsRising h.rooms_are k.rising) in
       let after : SameGates h.mid b = lost_gates h.mid b h.room h.loss in
-      let among : (room : ℕ) → is_among h.front room ≡ false → is_among now room ≡ is_among left room =
-      λ room e. sym (ap (λ (xs : List ℕ). is_among xs room) parts ∙ among_both h.front now room ∙ ap (λ (x : Bool). x || is_among now room) e) in
-      let fewer : (room : ℕ) → is_among now room ≡ true → is_among left room ≡ true =
-      λ room e. ap (λ (xs : List ℕ). is_among xs room) parts ∙ among_both h.front now room ∙ or_right (is_among h.front room) (is_among now room) e in
-      let gone : (room : ℕ) → is_among h.front room ≡ true → part room (steps_in now c.log) ≡ [] = λ room e. part_in now room c.log ∙ ap (λ (x : Bool). if x then part room c.log else []) (apart h.front now room rising e) in
-      let stay : (room : ℕ) → is_among h.front room ≡ false → part room (steps_in now c.log) ≡ part room steps = λ room e. part_in now room c.log ∙ ap (λ (x : Bool). if x then part room c.log else []) (among room e) ∙ sym (part_left room) in
+      let among : (room : ℕ) → is_room_among h.front room ≡ false → is_room_among now room ≡ is_room_among left room =
+      λ room e. sym (ap (λ (xs : List ℕ). is_room_among xs room) parts ∙ among_both h.front now room ∙ ap (λ (x : Bool). x || is_room_among now room) e) in
+      let fewer : (room : ℕ) → is_room_among now room ≡ true → is_room_among left room ≡ true =
+      λ room e. ap (λ (xs : List ℕ). is_room_among xs room) parts ∙ among_both h.front now room ∙ or_right (is_room_among h.front room) (is_room_among now room) e in
+      let gone : (room : ℕ) → is_room_among h.front room ≡ true → part room (steps_in now c.log) ≡ [] = λ room e. part_in now room c.log ∙ ap (λ (x : Bool). if x then part room c.log else []) (apart h.front now room rising e) in
+      let stay : (room : ℕ) → is_room_among h.front room ≡ false → part room (steps_in now c.log) ≡ part room steps = λ room e. part_in now room c.log ∙ ap (λ (x : Bool). if x then part room c.log else []) (among room e) ∙ sym (part_left room) in
       let gates : ℕ → GateView = gates_then op a h.mid b s t h.front c.iter number fit h.front_released after refl below in
       let p : Place = record { gates = gates; book = book; session = s.at } in
       let q : Place = record { gates = released gates h.front c.worker c.iter number; book = book; session = t.at } in
@@ -301,7 +301,7 @@ module _ {T S St : Type 0} (op : Operator) (a b : RoomsView (Value T S)) (rest :
       let front_is : h.front ≡ before left h.room = sym (ap (λ (xs : List ℕ). before xs h.room) h.rooms_are ∙ before_is h.front h.room h.rest new) in
       let left_is : now ≡ on_from left h.room = h.left_is ∙ sym (ap (λ (xs : List ℕ). on_from xs h.room) h.rooms_are ∙ on_from_is h.front h.room h.rest new) in
       let log_is : steps_in now c.log ≡ steps_in (on_from left h.room) steps = sym (steps_in_twice now left fewer c.log) ∙ ap (λ (xs : List ℕ). steps_in xs steps) left_is in
-      let needed : is_among left h.room ≡ true = ap (λ (xs : List ℕ). is_among xs h.room) h.rooms_are ∙ among_at h.front h.room h.rest in
+      let needed : is_room_among left h.room ≡ true = ap (λ (xs : List ℕ). is_room_among xs h.room) h.rooms_are ∙ among_at h.front h.room h.rest in
       record {
         has_turned =
             turned op a b s t p q l (release_stands op a h.mid b s t h.front c.iter number fit h.front_released after refl below book refl (book_ordered fit)) fit refl refl refl (book_ordered fit) (Some h.room)

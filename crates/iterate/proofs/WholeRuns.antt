@@ -7,7 +7,7 @@ use Rattle.speculation.specs.Limits.{Limit, limit_in, or_later, limit_of_schedul
 use Rattle.speculation.specs.Limits as limit
 use Rattle.speculation.specs.Machines.{Machine, turn}
 use Rattle.speculation.specs.Premises.{ScheduledAsk, AloneAsk}
-use Rattle.speculation.specs.ScheduledRuns.{is_empty, Run, begun, scheduled, drain, alone, drained, played}
+use Rattle.speculation.specs.ScheduledRuns.{is_empty, Run, begun, scheduled, drain, lone_run, drained, played}
 use Rattle.iterate.specs.declared.events.Stop.{Stop}
 use Rattle.iterate.specs.declared.events.Stop.TheVariants as stops
 use Rattle.iterate.specs.PlayedTurns.{IsEmptiedAlone, IsPlayedRun}
@@ -19,7 +19,7 @@ module _ (op : Operator) (m : Machine) (workers : ℕ) (schedule : List ℕ) whe
   unfolding drained
   drained_is r s h k = k ∙ ap (λ (x : Run). drain x workers) h
 
-  played_is : (turns : ℕ) → played op m workers schedule turns ≡ record (drained op m workers schedule) { machine = alone op (drained op m workers schedule).machine turns }
+  played_is : (turns : ℕ) → played op m workers schedule turns ≡ record (drained op m workers schedule) { machine = lone_run op (drained op m workers schedule).machine turns }
   unfolding played
   played_is turns = refl
 
@@ -35,8 +35,8 @@ module _ (op : Operator) (m : Machine) (workers : ℕ) (schedule : List ℕ) whe
       → IsEmptiedAlone op s.machine last.machine → last.trace ≡ s.trace → IsPlayedRun op m workers schedule last
   whole r s last h n a k lone same =
       let d : s ≡ drained op m workers schedule = drained_is r s h k in
-      let run : last ≡ record (drained op m workers schedule) { machine = alone op (drained op m workers schedule).machine lone.turns } =
-      λ i. record { machine = (lone.machine_is ∙ ap (λ (x : Run). alone op x.machine lone.turns) d) i; trace = (same ∙ ap (λ (x : Run). x.trace) d) i } in
+      let run : last ≡ record (drained op m workers schedule) { machine = lone_run op (drained op m workers schedule).machine lone.turns } =
+      λ i. record { machine = (lone.machine_is ∙ ap (λ (x : Run). lone_run op x.machine lone.turns) d) i; trace = (same ∙ ap (λ (x : Run). x.trace) d) i } in
       let is : last ≡ played op m workers schedule lone.turns = run ∙ sym (played_is lone.turns) in
       record {
         turns = lone.turns;
@@ -82,8 +82,8 @@ module _ (op : Operator) (m : Machine) (workers : ℕ) (schedule : List ℕ) whe
   ends_by : (b : Bool) (a c : Machine) → b ≡ false → is_empty (Machine.book (if b then a else c)).ready ≡ true → is_empty c.book.ready ≡ true
   ends_by b a c e h = subst (λ (t : Bool). is_empty (Machine.book (if t then a else c)).ready ≡ true) e h
 
-  none_later : (n more : ℕ) (a : Machine) → limit_of_alone op a n ≡ None → is_empty (alone op a n).book.ready ≡ true → limit_of_alone op a (n + more) ≡ None
-  unfolding limit_of_alone alone
+  none_later : (n more : ℕ) (a : Machine) → limit_of_alone op a n ≡ None → is_empty (lone_run op a n).book.ready ≡ true → limit_of_alone op a (n + more) ≡ None
+  unfolding limit_of_alone lone_run
   none_later zero more a h e = subst (λ k. limit_of_alone op a k ≡ None) (nothing more) (none_after op a more e)
     where
       nothing : (more : ℕ) → more ≡ zero + more
@@ -91,7 +91,7 @@ module _ (op : Operator) (m : Machine) (workers : ℕ) (schedule : List ℕ) whe
   none_later (suc n) more a h e =
       subst (λ k. limit_of_alone op a k ≡ None) (sums n more)
       (none_by (is_empty a.book.ready) (limit_in op a 0) (limit_of_alone op (turn op a 0) n) (limit_of_alone op (turn op a 0) (n + more))
-      (λ b k. none_later n more (turn op a 0) k (ends_by (is_empty a.book.ready) a (alone op (turn op a 0) n) b e)) h)
+      (λ b k. none_later n more (turn op a 0) k (ends_by (is_empty a.book.ready) a (lone_run op (turn op a 0) n) b e)) h)
     where
       sums : (n more : ℕ) → suc (n + more) ≡ suc n + more
       sums n more = omega arith
@@ -104,7 +104,7 @@ module _ (op : Operator) (m : Machine) (workers : ℕ) (schedule : List ℕ) whe
   none_passed last h l (n, passed) =
       let d : Machine = (drained op m workers schedule).machine in
       let none : (limit_of_scheduled op (begun m) schedule ≡ None) × (limit_of_alone op d h.turns ≡ None) = neither (limit_of_scheduled op (begun m) schedule) (limit_of_alone op d h.turns) (sym (limit_is h.turns) ∙ h.unlimited) in
-      let is : last.machine ≡ alone op d h.turns = ap (λ (x : Run). x.machine) (h.run_is ∙ played_is h.turns) in
+      let is : last.machine ≡ lone_run op d h.turns = ap (λ (x : Run). x.machine) (h.run_is ∙ played_is h.turns) in
       let later : limit_of_played op m workers schedule (h.turns + n) ≡ None =
       after_schedule (h.turns + n) none.0 ∙ none_later h.turns n d none.1 (subst (λ (x : Machine). is_empty x.book.ready ≡ true) is h.ends) in
       let passed_on : limit_of_played op m workers schedule (h.turns + n) ≡ Some l = ap (limit_of_played op m workers schedule) (turned_sum h.turns n) ∙ played_more n h.turns l passed in

@@ -3,7 +3,7 @@ use Rattle.std.specs.Prelude.{ℕ, Bool, false, ◌&&◌, ◌||◌, ◌==◌, Op
 use Rattle.gx_base.specs.declared.acts.Step.{Step}
 use Rattle.gx_base.specs.Plans.{Plan, Call, Push, Done}
 use Rattle.speculation.specs.Sessions.{Session, Phase, Idle, Running, Finished, Undoing, Ahead, Asks, Ends, ahead, last_step, steps_before, has_no_step}
-use Rattle.iterate.specs.RoomLists.{is_among, rooms_of}
+use Rattle.iterate.specs.RoomLists.{is_room_among, rooms_of}
 use Rattle.iterate.specs.SessionViews.{OpenCommit, SessionView}
 
 -- the session, once its body has come to a call or to its end
@@ -39,13 +39,13 @@ is_last (Some step) room = step.room == room
 abbrev pub needs_at : (book : ℕ) → Session → Phase → ℕ → Bool
 needs_at book s Idle room = book == room
 needs_at book s (Running plan) room = asks_in plan room || to_put_back book s.outcome.steps room
-needs_at book s Finished room = (book == room) || is_among (rooms_of s.outcome.steps) room
+needs_at book s Finished room = (book == room) || is_room_among (rooms_of s.outcome.steps) room
 needs_at book s Undoing room = is_last (last_step s.outcome.steps) room || to_put_back book (steps_before s.outcome.steps) room
 
 -- one that commits needs the rooms that it has still to release
 abbrev pub needs_in : (book : ℕ) → Session → Option OpenCommit → ℕ → Bool
 needs_in book s None room = needs_at book s s.phase room
-needs_in book s (Some commit) room = is_among commit.left room
+needs_in book s (Some commit) room = is_room_among commit.left room
 
 abbrev pub needs : (book : ℕ) → SessionView → ℕ → Bool
 needs book session room = needs_in book (gone_on session.at) session.opened room

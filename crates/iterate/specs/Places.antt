@@ -16,7 +16,7 @@ use Rattle.speculation.specs.Machines.{Place}
 use Rattle.rooms.specs.RoomsViews.{RoomsView, is_held, commits_entered}
 use Rattle.rooms.specs.declared.values.Value.{Value}
 use Rattle.rooms.specs.declared.values.Value.TheVariants.{Object, Book}
-use Rattle.iterate.specs.RoomLists.{is_among, steps_in, AreRoomsRising, AreRoomsBelow}
+use Rattle.iterate.specs.RoomLists.{is_room_among, steps_in, AreRoomsRising, AreRoomsBelow}
 use Rattle.iterate.specs.SessionViews.{OpenCommit, SessionView}
 
 -- ---- values of rooms
@@ -84,7 +84,7 @@ IsFitIn op rooms session None = ((room : ℕ) → is_held rooms room ≡ false) 
 -- or the book is held, which has the commit, and no room that is left was released under its number
 IsFitIn op rooms session (Some made) =
     ((room : ℕ) → is_held rooms room ≡ (room == rooms.book)) × IsCommitOf op session made × (made.book.ordered ≡ rooms.ordered)
-    × (commits_entered rooms ≡ made.number) × ((room : ℕ) → is_among made.left room ≡ true → rooms.released room ≡ false)
+    × (commits_entered rooms ≡ made.number) × ((room : ℕ) → is_room_among made.left room ≡ true → rooms.released room ≡ false)
 
 -- a session may take a turn in these rooms
 pub record IsFit {T S : Type 0} (op : Operator) (rooms : RoomsView (Value T S)) (session : SessionView) : Type 0 where

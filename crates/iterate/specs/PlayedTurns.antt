@@ -9,7 +9,7 @@ use Rattle.speculation.specs.Events as event
 use Rattle.speculation.specs.Limits.{limit_in, limit_of_alone, limit_of_played}
 use Rattle.speculation.specs.Machines.{Machine, place_of, turn_at, turn}
 use Rattle.speculation.specs.Premises.{AsksCall, AloneAsk, AsksCalls}
-use Rattle.speculation.specs.ScheduledRuns.{is_empty, Run, alone, played}
+use Rattle.speculation.specs.ScheduledRuns.{is_empty, Run, lone_run, played}
 use Rattle.speculation.specs.Sessions.{Session, Phase, Idle, Running, Finished, Undoing}
 use Rattle.rooms.specs.RoomsViews.{RoomsView}
 use Rattle.rooms.specs.declared.values.Value.{Value}
@@ -103,7 +103,7 @@ pub record IsTracedTurn (op : Operator) (before after : Run) (worker : ℕ) : Ty
 -- worker 0 alone has emptied the ready set, by calls with numbers of 64 bits and commits that passed no limit
 pub record IsEmptiedAlone (op : Operator) (before after : Machine) : Type 0 where
   pub turns : ℕ
-  pub machine_is : after ≡ alone op before turns
+  pub machine_is : after ≡ lone_run op before turns
   pub ends : is_empty after.book.ready ≡ true
   pub unlimited : limit_of_alone op before turns ≡ None
   pub asks : AloneAsk op before turns

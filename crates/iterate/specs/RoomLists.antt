@@ -5,9 +5,9 @@ use Rattle.std.specs.Ordering.{nat_cmp}
 use Rattle.std.specs.BTreeSet.{insert_key}
 use Rattle.gx_base.specs.declared.acts.Step.{Step}
 
-abbrev pub is_among : List ℕ → ℕ → Bool
-is_among [] room = false
-is_among (x ∷ xs) room = (x == room) || is_among xs room
+abbrev pub is_room_among : List ℕ → ℕ → Bool
+is_room_among [] room = false
+is_room_among (x ∷ xs) room = (x == room) || is_room_among xs room
 
 -- the rooms of some steps, each once, by rising number
 abbrev pub rooms_of : List Step → List ℕ
@@ -16,7 +16,7 @@ rooms_of (step ∷ steps) = insert_key nat_cmp (rooms_of steps) step.room
 
 -- the part of some steps in these rooms
 abbrev pub steps_in : List ℕ → List Step → List Step
-steps_in rooms steps = filter (λ (step : Step). is_among rooms step.room) steps
+steps_in rooms steps = filter (λ (step : Step). is_room_among rooms step.room) steps
 
 -- the rooms before this one in a list, and it with those after it
 abbrev pub before : List ℕ → ℕ → List ℕ
@@ -27,9 +27,9 @@ abbrev pub on_from : List ℕ → ℕ → List ℕ
 on_from [] room = []
 on_from (x ∷ xs) room = if x == room then x ∷ xs else on_from xs room
 
-abbrev pub rest_of : List ℕ → List ℕ
-rest_of [] = []
-rest_of (x ∷ xs) = xs
+abbrev pub rooms_after_first : List ℕ → List ℕ
+rooms_after_first [] = []
+rooms_after_first (x ∷ xs) = xs
 
 -- with the room put there, the rooms are those with it. None where they are so already
 abbrev pub IsPlaceFor : List ℕ → ℕ → Option ℕ → Type 0

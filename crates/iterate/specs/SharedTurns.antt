@@ -8,7 +8,7 @@ use Rattle.speculation.specs.Events.{Event}
 use Rattle.speculation.specs.Events as event
 use Rattle.speculation.specs.Sessions.{Session, Phase, Idle, Running, Finished, Undoing, ended, undoing, undone_to, has_no_step}
 use Rattle.speculation.specs.Machines.{Place, let_go, turn_at}
-use Rattle.iterate.specs.RoomLists.{is_among, rooms_of, steps_in, before, on_from}
+use Rattle.iterate.specs.RoomLists.{is_room_among, rooms_of, steps_in, before, on_from}
 use Rattle.iterate.specs.SessionViews.{OpenCommit, SessionView}
 use Rattle.iterate.specs.Needs.{gone_on}
 
@@ -21,7 +21,7 @@ pub record Shared : Type 0 where
 
 -- the iteration's calls in these rooms are committed under a number
 abbrev pub released : (ℕ → GateView) → List ℕ → (worker iter number : ℕ) → ℕ → GateView
-released gates rooms worker iter number room = if is_among rooms room then release (gates room) worker iter number else gates room
+released gates rooms worker iter number room = if is_room_among rooms room then release (gates room) worker iter number else gates room
 
 -- a commit is made in rooms before this one, which is held: the session has still to make it there and in the rooms after it
 abbrev pub cut_commit : Place → (worker : ℕ) → Session → List Item → OpenCommit → ℕ → Shared

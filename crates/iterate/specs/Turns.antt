@@ -4,7 +4,7 @@ use Rattle.gx_base.specs.declared.acts.Entry.{Entry}
 use Rattle.gx_base.specs.Entries.{entries_by}
 use Rattle.gx_base.specs.Plans.{Operator}
 use Rattle.gate_core.specs.CallAnswers.{Tells}
-use Rattle.gate_core.specs.Views.{rows_of, live_start}
+use Rattle.gate_core.specs.Views.{gate_rows, live_start}
 use Rattle.commit_book.specs.BookViews.{is_named}
 use Rattle.speculation.specs.Events.{Event}
 use Rattle.speculation.specs.Events as event
@@ -49,7 +49,7 @@ is_commit _ = false
 
 -- a conflict also tells the state functions, and they are right where the row of the two calls names them
 abbrev pub TellsRight : Place → (worker : ℕ) → CodeEvent → Type 0
-TellsRight p worker (code.Conflict room told) = (place : ℕ) × Tells (rows_of (p.gates room)) (live_start (p.gates room)) (p.gates room).live (entry_of p worker (gone_on p.session) room told.asked) told place
+TellsRight p worker (code.Conflict room told) = (place : ℕ) × Tells (gate_rows (p.gates room)) (live_start (p.gates room)) (p.gates room).live (entry_of p worker (gone_on p.session) room told.asked) told place
 TellsRight p worker _ = ⊤
 
 -- ---- the room that was held

@@ -12,7 +12,7 @@ use Rattle.rooms.specs.Values.{tells}
 use Rattle.rooms.specs.declared.values.Value.{Value}
 use Rattle.rooms.specs.declared.values.Value.TheVariants.{Object, Book}
 use Rattle.iterate.specs.Places.{gate_of, IfTold}
-use Rattle.iterate.specs.RoomLists.{is_among, AreRoomsRising, AreRoomsBelow}
+use Rattle.iterate.specs.RoomLists.{is_room_among, AreRoomsRising, AreRoomsBelow}
 use Rattle.iterate.specs.SessionViews.{Core}
 use Rattle.iterate.specs.TurnMoves.{gates_visited}
 use Rattle.iterate.specs.declared.events.Event.{Event as CodeEvent}
@@ -55,15 +55,15 @@ pub data GaveUp {T S St : Type 0} (before after : RoomsView (Value T S)) (old ne
 -- told, and nothing else changed
 pub record AreReleased {T S : Type 0} (before after : RoomsView (Value T S)) (worker iter number : ℕ) (rooms : List ℕ) : Type 0 where
   pub was : ℕ → GateView
-  pub entries : (room : ℕ) → is_among rooms room ≡ true → entries_for before.acts_for (was room).live ≡ before.live room
-  pub gates : (room : ℕ) → is_among rooms room ≡ true → IfTold (before.told room) (λ value. was room ≡ gate_of value)
-  pub live : (room : ℕ) → after.live room ≡ (if is_among rooms room then entries_for before.acts_for (release (was room) worker iter number).live else before.live room)
-  pub told : (room : ℕ) → after.told room ≡ (if is_among rooms room then told_with (before.told room) (Object (release (was room) worker iter number)) else before.told room)
+  pub entries : (room : ℕ) → is_room_among rooms room ≡ true → entries_for before.acts_for (was room).live ≡ before.live room
+  pub gates : (room : ℕ) → is_room_among rooms room ≡ true → IfTold (before.told room) (λ value. was room ≡ gate_of value)
+  pub live : (room : ℕ) → after.live room ≡ (if is_room_among rooms room then entries_for before.acts_for (release (was room) worker iter number).live else before.live room)
+  pub told : (room : ℕ) → after.told room ≡ (if is_room_among rooms room then told_with (before.told room) (Object (release (was room) worker iter number)) else before.told room)
   pub book : after.book ≡ before.book
   pub ordered : after.ordered ≡ before.ordered
   pub acts_for : after.acts_for ≡ before.acts_for
   pub held : after.held ≡ before.held
-  pub released : (room : ℕ) → is_among rooms room ≡ false → after.released room ≡ before.released room
+  pub released : (room : ℕ) → is_room_among rooms room ≡ false → after.released room ≡ before.released room
   pub lost : after.lost ≡ before.lost
   pub moves : after.moves ≡ gates_visited was (λ room. release (was room) worker iter number) rooms before.moves
 
@@ -73,7 +73,7 @@ pub record MayRelease {V : Type 0} (view : RoomsView V) (number : ℕ) (left : L
   pub below : AreRoomsBelow view.book left
   pub held : (room : ℕ) → is_held view room ≡ (room == view.book)
   pub count : commits_entered view ≡ number
-  pub unreleased : (room : ℕ) → is_among left room ≡ true → view.released room ≡ false
+  pub unreleased : (room : ℕ) → is_room_among left room ≡ true → view.released room ≡ false
   pub small : number < 2 ^ 64 - 1
 
 -- it was released in rooms before this one, which was held

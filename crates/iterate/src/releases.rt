@@ -1,7 +1,7 @@
 ghost use Rattle.std.specs.Prelude.{◌≡◌, ◌∷◌, [], IfOk, IfSome, IfNone, OnOk};
 ghost use Rattle.std.specs.Ordering.{nat_cmp};
 ghost use Rattle.std.specs.BTreeSet.{insert_key};
-ghost use Rattle.iterate.specs.RoomLists.{rooms_of, rest_of, IsPlaceFor};
+ghost use Rattle.iterate.specs.RoomLists.{rooms_of, rooms_after_first, IsPlaceFor};
 
 use gx_base::{NoMemory, Room, Step};
 use std::alloc::Global;
@@ -39,7 +39,7 @@ impl Releases {
 
     /// The least of them.
     pub fn first(&self) -> Option<Room>
-        ensures some { IfSome result (λ room. self.now ≡ room ∷ rest_of self.now) }
+        ensures some { IfSome result (λ room. self.now ≡ room ∷ rooms_after_first self.now) }
         ensures none { IfNone result (self.now ≡ []) }
     {
         match self.rooms.get(self.passed) {
@@ -50,7 +50,7 @@ impl Releases {
 
     /// The least of them, where there is one, is released. Takes no memory.
     pub fn pass(&mut self)
-        ensures { self.new ≡ rest_of self.old }
+        ensures { self.new ≡ rooms_after_first self.old }
     {
         if self.passed < self.rooms.len() {
             self.passed += 1;

@@ -11,7 +11,7 @@ use Rattle.gx_base.proofs.CallerLemmas.{same_row, same_row-is, row_at-with}
 use Rattle.kd_points.specs.declared.nodes.Node.{Node}
 use Rattle.kd_points.specs.declared.tree.Tree.{Tree}
 use Rattle.kd_points.specs.Trees.{Nodes, is_point_of, FitsSpot}
-use Rattle.kd_points.specs.TreeStates.{node_at, place, row_of_node, rows_of, tree_state, IsSound}
+use Rattle.kd_points.specs.TreeStates.{node_at, place, row_of_node, tree_rows, tree_state, IsSound}
 
 -- every node's numbers fit
 abbrev pub AllFit : Nodes → Type 0
@@ -38,12 +38,12 @@ put-IsPlace : (key at : ℕ × ℤ) (b : Bool) (row old : Option (List ℤ)) →
 put-IsPlace key at true row old e h k = subst (λ q. IsPlace q row) (sym (e refl)) h
 put-IsPlace key at false row old e h k = k
 
-rows-IsPlace : (look : Nodes) → AllFit look → (es : List (ℤ × ℕ)) (key : ℕ × ℤ) → IsPlace key (map.get (rows_of look es) key)
+rows-IsPlace : (look : Nodes) → AllFit look → (es : List (ℤ × ℕ)) (key : ℕ × ℤ) → IsPlace key (map.get (tree_rows look es) key)
 rows-IsPlace look h [] key = subst (IsPlace key) (sym (map.get-empty row_cmp key)) tt
 rows-IsPlace look h (e ∷ es) key =
-    let s : State = record { kind = 3; rows = rows_of look es } in
+    let s : State = record { kind = 3; rows = tree_rows look es } in
     subst (IsPlace key) (sym (row_at-with s (0, e.0) (row_of_node e.0 (look e.1)) key))
-    (put-IsPlace key (0, e.0) (same_row key (0, e.0)) (row_of_node e.0 (look e.1)) (map.get (rows_of look es) key) (same_row-is key (0, e.0)) (row-IsPlace look h e.0 e.1) (rows-IsPlace look h es key))
+    (put-IsPlace key (0, e.0) (same_row key (0, e.0)) (row_of_node e.0 (look e.1)) (map.get (tree_rows look es) key) (same_row-is key (0, e.0)) (row-IsPlace look h e.0 e.1) (rows-IsPlace look h es key))
 
 pub tree_state-HoldsPlaces : (tree : Tree) → IsSound tree → HoldsPlaces (tree_state tree)
 tree_state-HoldsPlaces tree s key = rows-IsPlace (node_at tree) s.placed.fits tree.numbers.entries key

@@ -33,13 +33,13 @@ row_of_node id None = None
 row_of_node id (Some n) = if is_point_of id n then Some (place n.spot) else None
 
 -- the rows of these ids, each with the key of its node
-abbrev pub rows_of : Nodes → List (ℤ × ℕ) → map.FinMap row_cmp (List ℤ)
-rows_of look [] = map.empty
-rows_of look (e ∷ es) = rows_put (rows_of look es) (0, e.0) (row_of_node e.0 (look e.1))
+abbrev pub tree_rows : Nodes → List (ℤ × ℕ) → map.FinMap row_cmp (List ℤ)
+tree_rows look [] = map.empty
+tree_rows look (e ∷ es) = rows_put (tree_rows look es) (0, e.0) (row_of_node e.0 (look e.1))
 
 -- the state of points
 abbrev pub tree_state : Tree → State
-tree_state tree = record { kind = kind_number Points; rows = rows_of (node_at tree) tree.numbers.entries }
+tree_state tree = record { kind = kind_number Points; rows = tree_rows (node_at tree) tree.numbers.entries }
 
 -- the points of a state are as many
 abbrev pub count_of : State → ℕ

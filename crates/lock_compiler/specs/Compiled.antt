@@ -13,13 +13,13 @@ use Rattle.cond_lattice.specs.Simple.{stands_in}
 use Rattle.lock_compiler.specs.LockModes.{Member, LockMode, LockModes}
 
 -- a number in its place among rising ones, once
-abbrev pub with_number : ℕ → List ℕ → List ℕ
-with_number n [] = n ∷ []
-with_number n (m ∷ ms) = if nat_le n m then (if n == m then m ∷ ms else n ∷ m ∷ ms) else m ∷ with_number n ms
+abbrev pub with_its_number : ℕ → List ℕ → List ℕ
+with_its_number n [] = n ∷ []
+with_its_number n (m ∷ ms) = if nat_le n m then (if n == m then m ∷ ms else n ∷ m ∷ ms) else m ∷ with_its_number n ms
 
 -- with the number of a value of the call on this side, where the term is one
 abbrev pub with_term : Side → Term → List ℕ → List ℕ
-with_term side (Value other place) numbers = if same_side side other then with_number place numbers else numbers
+with_term side (Value other place) numbers = if same_side side other then with_its_number place numbers else numbers
 with_term side _ numbers = numbers
 
 -- with the numbers of the values that stand in the inequalities of a conjunction, of the call on this side

@@ -21,8 +21,8 @@ abbrev pub are_compatible : LockModes → ℕ → ℕ → Bool
 are_compatible modes x y = not (incompatible modes x y) && not (incompatible modes y x)
 
 -- a mode is compatible with all, held and asked for
-abbrev pub is_idle : LockModes → ℕ → Bool
-is_idle modes mode = all_below (are_compatible modes mode) (length modes)
+abbrev pub is_idle_mode : LockModes → ℕ → Bool
+is_idle_mode modes mode = all_below (are_compatible modes mode) (length modes)
 
 -- one mode is incompatible with both of two others or with none of them, held, and so it is where it is asked for
 abbrev pub tells_alike : LockModes → ℕ → ℕ → ℕ → Bool
@@ -36,11 +36,11 @@ abbrev pub is_unlike : LockModes → ℕ → ℕ → Bool
 is_unlike modes mode earlier = not (are_alike modes earlier mode)
 
 -- a mode that stays: it isn't compatible with all, and none before it is like it
-abbrev pub stays : LockModes → ℕ → Bool
-stays modes mode = not (is_idle modes mode) && all_below (is_unlike modes mode) mode
+abbrev pub mode_stays : LockModes → ℕ → Bool
+mode_stays modes mode = not (is_idle_mode modes mode) && all_below (is_unlike modes mode) mode
 
 abbrev pub staying : LockModes → List ℕ
-staying modes = numbers_below (stays modes) (length modes)
+staying modes = numbers_below (mode_stays modes) (length modes)
 
 -- the members of the modes below a number that are like this one
 abbrev pub members_like : LockModes → ℕ → ℕ → List Member

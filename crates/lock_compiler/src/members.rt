@@ -7,7 +7,7 @@ ghost use Rattle.gx_base.specs.Kinds.{kind_number};
 ghost use Rattle.gx_base.specs.TableRows.{row_of};
 ghost use Rattle.cond_lattice.specs.Same.{same_sides};
 ghost use Rattle.cond_lattice.specs.Simple.{stands_in};
-ghost use Rattle.lock_compiler.specs.Compiled.{with_number, with_term, with_condition, locked_numbers, method_members, members_of, members_refuse};
+ghost use Rattle.lock_compiler.specs.Compiled.{with_its_number, with_term, with_condition, locked_numbers, method_members, members_of, members_refuse};
 
 use gx_base::{Cond, Kind, NoMemory, Side, Table, Term, method_at};
 use std::alloc::Global;
@@ -21,7 +21,7 @@ fn place_of(numbers: &[u32], number: u32) -> Option<usize>
 
 /// Puts a number in its place among rising ones, once.
 fn add_number(numbers: &mut Vec<u32>, number: u32) -> Result<(), NoMemory>
-    ensures { OnOk result (numbers.new.items ≡ with_number number numbers.old.items) }
+    ensures { OnOk result (numbers.new.items ≡ with_its_number number numbers.old.items) }
 {
     match place_of(numbers, number) {
         None => numbers.push(number)?,

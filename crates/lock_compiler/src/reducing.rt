@@ -1,6 +1,6 @@
 ghost use Rattle.std.specs.Prelude.{◌≡◌, ◌<◌, length, map, All, IfOk};
 ghost use Rattle.lock_compiler.specs.LockModes.{incompatible};
-ghost use Rattle.lock_compiler.specs.Reduced.{are_compatible, is_idle, tells_alike, are_alike, stays, staying, members_like, merged_mode, reduced};
+ghost use Rattle.lock_compiler.specs.Reduced.{are_compatible, is_idle_mode, tells_alike, are_alike, mode_stays, staying, members_like, merged_mode, reduced};
 ghost use Rattle.lock_compiler.specs.Wants.{mode_of, modes_of};
 
 use crate::modes::{Mode, Modes};
@@ -28,9 +28,9 @@ fn tells_alike(modes: &Modes, x: u32, y: u32, other: u32) -> bool
 }
 
 /// Whether a mode is compatible with all, held and asked for.
-fn is_idle(modes: &Modes, mode: u32) -> bool
+fn is_idle_mode(modes: &Modes, mode: u32) -> bool
     requires { mode < length modes.now }
-    ensures { result ≡ is_idle modes.now mode }
+    ensures { result ≡ is_idle_mode modes.now mode }
 {
     for other in 0..modes.count() {
         if !are_compatible(modes, mode, other) {
@@ -55,11 +55,11 @@ fn are_alike(modes: &Modes, x: u32, y: u32) -> bool
 }
 
 /// Whether a mode isn't compatible with all, and none before it is like it.
-fn stays(modes: &Modes, mode: u32) -> bool
+fn mode_stays(modes: &Modes, mode: u32) -> bool
     requires { mode < length modes.now }
-    ensures { result ≡ stays modes.now mode }
+    ensures { result ≡ mode_stays modes.now mode }
 {
-    if is_idle(modes, mode) {
+    if is_idle_mode(modes, mode) {
         return false;
     }
     for earlier in 0..mode {
@@ -75,7 +75,7 @@ fn staying(alloc: Global, modes: &Modes) -> Result<Vec<u32>, NoMemory>
 {
     let mut numbers = Vec::new(alloc);
     for mode in 0..modes.count() {
-        if stays(modes, mode) {
+        if mode_stays(modes, mode) {
             numbers.push(mode)?;
         }
     }

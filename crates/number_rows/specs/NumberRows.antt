@@ -7,8 +7,8 @@ use Rattle.number_rows.specs.declared.rows.TheConstants.{LEAST_TIDIED}
 use Rattle.number_rows.specs.Entries.{dead_in}
 
 -- the keys that have rows, with their numbers
-abbrev pub rows_of : NumberRows → map.FinMap int_cmp ℤ
-rows_of rows = map.from_entries rows.numbers.entries
+abbrev pub number_rows_of : NumberRows → map.FinMap int_cmp ℤ
+number_rows_of rows = map.from_entries rows.numbers.entries
 
 -- how many rows hold 0
 abbrev pub dead_rows : NumberRows → ℕ

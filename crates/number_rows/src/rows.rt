@@ -25,11 +25,11 @@ impl NumberRows {
     ghost use Rattle.std.specs.Map.{keys_of};
     ghost use Rattle.std.specs.Ordering.{int_eq};
     ghost use Rattle.number_rows.specs.NumbersAsRows.{number_in};
-    ghost use Rattle.number_rows.specs.NumberRows.{rows_of, dead_rows, IsLean};
+    ghost use Rattle.number_rows.specs.NumberRows.{number_rows_of, dead_rows, IsLean};
 
     /// No rows: each number is 0.
     pub fn new(alloc: Global) -> NumberRows
-        ensures { rows_of result ≡ map.empty }
+        ensures { number_rows_of result ≡ map.empty }
     {
         NumberRows {
             numbers: IndexMap::new(alloc),
@@ -39,7 +39,7 @@ impl NumberRows {
 
     /// The number of a key.
     pub fn value(&self, key: i64) -> i64
-        ensures { result ≡ number_in (rows_of self.now) key }
+        ensures { result ≡ number_in (number_rows_of self.now) key }
     {
         match self.found(key) {
             Some(number) => number,
@@ -49,13 +49,13 @@ impl NumberRows {
 
     /// Whether the key has a row, so that its number is written without memory.
     pub fn has_row(&self, key: i64) -> bool
-        ensures { result ≡ map.contains_key (rows_of self.now) key }
+        ensures { result ≡ map.contains_key (number_rows_of self.now) key }
     {
         self.found(key).is_some()
     }
 
     fn found(&self, key: i64) -> Option<i64>
-        ensures { result ≡ map.get (rows_of self.now) key }
+        ensures { result ≡ map.get (number_rows_of self.now) key }
     {
         match self.numbers.get(&key) {
             Some(number) => Some(*number),
@@ -65,9 +65,9 @@ impl NumberRows {
 
     /// Writes a number, and makes a row for it if need be.
     pub fn write(&mut self, key: i64, number: i64) -> Result<(), NoMemory>
-        ensures ok { OnOk result (rows_of self.new ≡ map.insert (rows_of self.old) key number) }
-        ensures err { OnErr result (rows_of self.new ≡ rows_of self.old) }
-        ensures succeeds { IsTrue (map.contains_key (rows_of self.old) key) → IsOk result }
+        ensures ok { OnOk result (number_rows_of self.new ≡ map.insert (number_rows_of self.old) key number) }
+        ensures err { OnErr result (number_rows_of self.new ≡ number_rows_of self.old) }
+        ensures succeeds { IsTrue (map.contains_key (number_rows_of self.old) key) → IsOk result }
     {
         // So the count of dead rows has room for one more.
         let rows = self.numbers.len();
@@ -79,8 +79,8 @@ impl NumberRows {
 
     /// Writes a number in the row that its key has.
     pub fn rewrite(&mut self, key: i64, number: i64)
-        requires { IsTrue (map.contains_key (rows_of self.old) key) }
-        ensures { rows_of self.new ≡ map.insert (rows_of self.old) key number }
+        requires { IsTrue (map.contains_key (number_rows_of self.old) key) }
+        ensures { number_rows_of self.new ≡ map.insert (number_rows_of self.old) key number }
     {
         self.write(key, number).unwrap();
     }
@@ -88,7 +88,7 @@ impl NumberRows {
     /// Drops the dead rows where they are more than half of all rows, and these are `LEAST_TIDIED` at least.
     /// Else does nothing at all, and keeps the room that its table has to spare.
     pub fn tidy(&mut self)
-        ensures numbers { (key : ℤ) → number_in (rows_of self.new) key ≡ number_in (rows_of self.old) key }
+        ensures numbers { (key : ℤ) → number_in (number_rows_of self.new) key ≡ number_in (number_rows_of self.old) key }
         ensures lean { IsLean self.new }
         ensures dropped { ¬ (IsLean self.old) → dead_rows self.new ≡ 0 }
         ensures idle { IsLean self.old → self.new ≡ self.old }
@@ -104,7 +104,7 @@ impl NumberRows {
     // the map says.
     fn drop_dead_rows(&mut self)
         requires { IsDistinct int_eq (keys_of self.old.numbers.entries) }
-        ensures numbers { (key : ℤ) → number_in (rows_of self.new) key ≡ number_in (rows_of self.old) key }
+        ensures numbers { (key : ℤ) → number_in (number_rows_of self.new) key ≡ number_in (number_rows_of self.old) key }
         ensures dropped { dead_rows self.new ≡ 0 }
     {
         self.numbers.retain(

@@ -21,11 +21,11 @@ abbrev pub lists_of : Discharge → ℕ → List Touch
 lists_of d list = list_at d.touches list
 
 -- what is done for an item
-abbrev pub plan_of : Discharge → Item → Plan
-plan_of d item = if names_node d.nodes item then node_plan (ends_of d) item.k0 (touches_of d.touches item.k0) else Done
+abbrev pub item_plan : Discharge → Item → Plan
+item_plan d item = if names_node d.nodes item then node_plan (ends_of d) item.k0 (touches_of d.touches item.k0) else Done
 
-abbrev pub rest_of : Discharge → Stage → Option Reply → Plan
-rest_of d stage reply = stages.rest_at (ends_of d) (lists_of d) stage (stages.value_of_reply reply)
+abbrev pub body_rest : Discharge → Stage → Option Reply → Plan
+body_rest d stage reply = stages.rest_at (ends_of d) (lists_of d) stage (stages.value_of_reply reply)
 
 abbrev pub acts_of : Discharge → Stage → ℕ
 acts_of d stage = stages.acts_left (lists_of d) stage
@@ -40,4 +40,4 @@ acts_onward d walk = stages.acts_over (length (stages.arcs_left (lists_of d) wal
 
 -- the act begins the plan, the stage is where the rest of it is done, and the bound on the acts falls
 abbrev pub MovesTo : Discharge → Plan → ℕ → Act → Stage → Type 0
-MovesTo d plan bound act stage = Moves rooms (rest_of d) (acts_of d) plan bound act stage
+MovesTo d plan bound act stage = Moves rooms (body_rest d) (acts_of d) plan bound act stage

@@ -4,26 +4,26 @@ use Rattle.std.specs.Int.{w64, int_wrapping_neg, int_rem_euclid}
 use Rattle.gx_base.specs.declared.calls.Call.{Call}
 pub use Rattle.gx_base.specs.FlowKind.{height_method, relabel_method, excess_method, gain_method, flow_method, send_method}
 
-abbrev pub call_of : ℕ → ℤ → ℤ → Call
-call_of method a b = record { method = method; a = a; b = b; c = pos 0; d = pos 0 }
+abbrev pub flow_call_of : ℕ → ℤ → ℤ → Call
+flow_call_of method a b = record { method = method; a = a; b = b; c = pos 0; d = pos 0 }
 
 abbrev pub height : ℤ → Call
-height node = call_of height_method node (pos 0)
+height node = flow_call_of height_method node (pos 0)
 
 abbrev pub relabel : ℤ → ℤ → Call
-relabel node level = call_of relabel_method node level
+relabel node level = flow_call_of relabel_method node level
 
 abbrev pub excess : ℤ → Call
-excess node = call_of excess_method node (pos 0)
+excess node = flow_call_of excess_method node (pos 0)
 
 abbrev pub gain : ℤ → ℤ → Call
-gain node amount = call_of gain_method node amount
+gain node amount = flow_call_of gain_method node amount
 
 abbrev pub flow : ℤ → Call
-flow arc = call_of flow_method arc (pos 0)
+flow arc = flow_call_of flow_method arc (pos 0)
 
 abbrev pub send : ℤ → ℤ → Call
-send arc amount = call_of send_method arc amount
+send arc amount = flow_call_of send_method arc amount
 
 -- how many rooms there are
 abbrev pub rooms : ℕ

@@ -64,16 +64,16 @@ abbrev pub whole : FileState → Option Net
 whole s = whole_of s.problem s.source s.sink s.arcs
 
 -- the network that lines tell from here on, or the line of the first fault; the next line has the number k
-abbrev pub ended : Option Net → ℕ → Result Net ℕ
-ended None k = Err k
-ended (Some net) k = Ok net
+abbrev pub read_to_end : Option Net → ℕ → Result Net ℕ
+read_to_end None k = Err k
+read_to_end (Some net) k = Ok net
 
 abbrev pub then_read : Option FileState → ℕ → (FileState → Result Net ℕ) → Result Net ℕ
 then_read None k go_on = Err k
 then_read (Some s) k go_on = go_on s
 
 abbrev pub read_from : List Said → ℕ → FileState → Result Net ℕ
-read_from [] k s = ended (whole s) k
+read_from [] k s = read_to_end (whole s) k
 read_from (said ∷ saids) k s = then_read (step said s) k (read_from saids (k + 1))
 
 abbrev pub saids_of : List ℕ → List Said

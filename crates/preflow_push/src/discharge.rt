@@ -3,7 +3,7 @@ ghost use Rattle.std.specs.Ordering.{int_eq};
 ghost use Rattle.std.specs.Int.{w64, int_wrapping_sub, int_wrapping_add};
 ghost use Rattle.gx_base.specs.Plans as plans;
 ghost use Rattle.gx_base.specs.declared.acts.Act.TheVariants as acts;
-ghost use Rattle.preflow_push.specs.FlowCalls.{call_of, room_of};
+ghost use Rattle.preflow_push.specs.FlowCalls.{flow_call_of, room_of};
 ghost use Rattle.preflow_push.specs.Discharge.{names_node, node_item, residual, sent_along, is_just_above, lesser, rise, is_terminal, discharge_plan};
 ghost use Rattle.preflow_push.specs.Networks.{view};
 ghost use Rattle.preflow_push.specs.Stages.{value_of_reply};
@@ -75,13 +75,13 @@ fn lesser(least: Option<i64>, height: i64) -> i64
 }
 
 impl Discharge {
-    ghost use Rattle.preflow_push.specs.Discharges.{plan_of, ends_of, lists_of, onward_of, acts_of, acts_onward, MovesTo};
+    ghost use Rattle.preflow_push.specs.Discharges.{item_plan, ends_of, lists_of, onward_of, acts_of, acts_onward, MovesTo};
     ghost use Rattle.preflow_push.specs.Discharge as discharge;
     ghost use Rattle.preflow_push.specs.Stages.{acts_over};
 
     /// The work on the nodes of a network.
     pub fn new(alloc: Global, net: &Network) -> Result<Discharge, NoMemory>
-        ensures { IfOk result (λ made. plan_of made ≡ discharge_plan (view net.now)) }
+        ensures { IfOk result (λ made. item_plan made ≡ discharge_plan (view net.now)) }
     {
         let touches = Touches::new(alloc, &net.arcs)?;
         Ok(Discharge {
@@ -240,7 +240,7 @@ impl Discharge {
 }
 
 impl Operator for Discharge {
-    ghost use Rattle.preflow_push.specs.Discharges.{plan_of, rest_of, acts_of};
+    ghost use Rattle.preflow_push.specs.Discharges.{item_plan, body_rest, acts_of};
     ghost use Rattle.preflow_push.specs.FlowCalls.{rooms};
 
     type St = Stage;
@@ -249,9 +249,9 @@ impl Operator for Discharge {
 
     ghost room_count = { λ d. rooms };
 
-    ghost plan = { plan_of };
+    ghost plan = { item_plan };
 
-    ghost rest = { rest_of };
+    ghost rest = { body_rest };
 
     ghost to_go = { acts_of };
 

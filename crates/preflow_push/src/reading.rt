@@ -5,7 +5,7 @@ ghost use Rattle.gx_base.specs.declared.inputs.InputFault as fault;
 ghost use Rattle.gx_base.specs.declared.inputs.InputFault.TheVariants as faults;
 ghost use Rattle.preflow_push.specs.FlowLimits.{CallsFor, answer_of, sized};
 ghost use Rattle.preflow_push.specs.FlowLines.{IsSmall};
-ghost use Rattle.preflow_push.specs.FlowReading.{state, at_first, step, whole, AreSmall, flow_of, AnswersReading, ended, is_node_number, is_other_than, may_be_terminal, may_go};
+ghost use Rattle.preflow_push.specs.FlowReading.{state, at_first, step, whole, AreSmall, flow_of, AnswersReading, read_to_end, is_node_number, is_other_than, may_be_terminal, may_go};
 ghost use Rattle.preflow_push.specs.Networks.{Net, view};
 
 use super::flow_lines::{Said, said_by};
@@ -136,7 +136,7 @@ impl Seen {
     /// The network, where nothing is missing at the end, whose line is given.
     fn finish(self, end: u64) -> Result<Network, InputFault>
         requires { AreSmall (state self) }
-        ensures { AnswersReading result (ended (whole (state self)) end) }
+        ensures { AnswersReading result (read_to_end (whole (state self)) end) }
     {
         match (self.problem, self.source, self.sink) {
             (Some((nodes, arcs)), Some(source), Some(sink)) if self.arcs.len() as u64 == arcs => {

@@ -6,7 +6,7 @@ ghost use Rattle.std.specs.Int.{w64, int_wrapping_add};
 ghost use Rattle.gx_base.specs.Replays.{in_rooms, put};
 ghost use Rattle.gx_base.specs.Steps.{next_state};
 ghost use Rattle.flow_graph.specs.FlowState.{state_of};
-ghost use Rattle.preflow_push.specs.FlowCalls.{rooms, room_of, call_of};
+ghost use Rattle.preflow_push.specs.FlowCalls.{rooms, room_of, flow_call_of};
 ghost use Rattle.preflow_push.specs.FlowStates.{flow_in};
 ghost use Rattle.preflow_push.specs.Networks.{view};
 ghost use Rattle.preflow_push.specs.Discharge.{is_node, node_item};
@@ -55,7 +55,7 @@ fn empty_shards(alloc: Global) -> Result<Vec<FlowShard>, NoMemory>
 /// Makes a call in the room of its node or arc.
 fn make(shards: &mut [FlowShard], method: u32, number: i64, amount: i64) -> Result<(), NoMemory>
     requires { length shards.old ≡ rooms }
-    ensures { OnOk result (in_rooms (map state_of shards.new) ≡ put (in_rooms (map state_of shards.old)) (room_of number) (next_state (in_rooms (map state_of shards.old) (room_of number)) (call_of method number amount))) }
+    ensures { OnOk result (in_rooms (map state_of shards.new) ≡ put (in_rooms (map state_of shards.old)) (room_of number) (next_state (in_rooms (map state_of shards.old) (room_of number)) (flow_call_of method number amount))) }
 {
     shards[room_of(number) as usize].apply(flow_call(method, number, amount))?;
     Ok(())

@@ -2,5 +2,5 @@
 use Rattle.std.specs.Prelude.{ℕ, ◌+◌, ◌*◌, ◌%◌, ◌^◌}
 use Rattle.schedules.specs.declared.affine.Affine.{Affine}
 
-unfoldable pub value_at : Affine → ℕ → ℕ
-value_at map x = (map.factor * x + map.term) % 2 ^ 64
+unfoldable pub map_value_at : Affine → ℕ → ℕ
+map_value_at map x = (map.factor * x + map.term) % 2 ^ 64

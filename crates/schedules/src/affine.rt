@@ -1,8 +1,8 @@
 //! The maps by which states go on, composed.
 
 ghost use Rattle.std.specs.Prelude.{◌≡◌, ℕ, ◌<◌, ◌^◌, ◌%◌, ◌==◌, if◌then◌else◌};
-ghost use Rattle.schedules.specs.Draws.{next_state, state_after};
-ghost use Rattle.schedules.specs.AffineMaps.{value_at};
+ghost use Rattle.schedules.specs.Draws.{next_draw_state, state_after};
+ghost use Rattle.schedules.specs.AffineMaps.{map_value_at};
 
 /// The map from x to factor * x + term, in 64 bits.
 #[derive(Clone, Copy)]
@@ -16,16 +16,16 @@ const SAME: Affine = Affine { factor: 1, term: 0 };
 
 impl Affine {
     /// The map's value.
-    #[tactic(auto, using(crate::proofs::states::AffineLaws::added), unfolding(crate::specs::AffineMaps::value_at))]
+    #[tactic(auto, using(crate::proofs::states::AffineLaws::added), unfolding(crate::specs::AffineMaps::map_value_at))]
     fn at(self, x: u64) -> u64
-        ensures { result ≡ value_at self x }
+        ensures { result ≡ map_value_at self x }
     {
         self.factor.wrapping_mul(x).wrapping_add(self.term)
     }
 
     /// The map that does another one first.
     fn after(self, first: Affine) -> Affine
-        ensures { (x : ℕ) → value_at result x ≡ value_at self (value_at first x) }
+        ensures { (x : ℕ) → map_value_at result x ≡ map_value_at self (map_value_at first x) }
     {
         Affine {
             factor: self.factor.wrapping_mul(first.factor),
@@ -35,7 +35,7 @@ impl Affine {
 
     /// The map with another one after it where a number is odd.
     fn if_odd(self, next: Affine, number: u64) -> Affine
-        ensures { (x : ℕ) → value_at result x ≡ (if number % 2 == 1 then value_at next (value_at self x) else value_at self x) }
+        ensures { (x : ℕ) → map_value_at result x ≡ (if number % 2 == 1 then map_value_at next (map_value_at self x) else map_value_at self x) }
     {
         if number % 2 == 1 {
             next.after(self)
@@ -46,9 +46,9 @@ impl Affine {
 }
 
 /// The map that makes the next state of one.
-#[tactic(auto, unfolding(crate::specs::AffineMaps::value_at, crate::specs::Draws::next_state))]
+#[tactic(auto, unfolding(crate::specs::AffineMaps::map_value_at, crate::specs::Draws::next_draw_state))]
 fn next() -> Affine
-    ensures { (x : ℕ) → value_at result x ≡ next_state x }
+    ensures { (x : ℕ) → map_value_at result x ≡ next_draw_state x }
 {
     Affine {
         factor: 6_364_136_223_846_793_005,
@@ -57,15 +57,15 @@ fn next() -> Affine
 }
 
 /// The state after one.
-pub(crate) fn next_state(x: u64) -> u64
-    ensures { result ≡ next_state x }
+pub(crate) fn next_draw_state(x: u64) -> u64
+    ensures { result ≡ next_draw_state x }
 {
     next().at(x)
 }
 
 /// The map of so many steps. It is composed of their squares, so it takes as many turns as the number has bits.
 fn steps(count: u64) -> Affine
-    ensures { (x : ℕ) → x < 2 ^ 64 → value_at result x ≡ state_after x count }
+    ensures { (x : ℕ) → x < 2 ^ 64 → map_value_at result x ≡ state_after x count }
 {
     let mut done = SAME;
     let mut square = next();

@@ -2,9 +2,9 @@
 
 ghost use Rattle.std.specs.Prelude.{◌≡◌, ◌≤◌, ◌<◌, ◌+◌, ◌/◌, ◌%◌, ◌^◌, IfOk, ◌==◌, if◌then◌else◌};
 ghost use Rattle.std.specs.List.{All};
-ghost use Rattle.schedules.specs.Draws.{draw, sched, schedule_of};
+ghost use Rattle.schedules.specs.Draws.{draw, sched, scheduled_turns};
 
-use crate::affine::{next_state, state_after};
+use crate::affine::{next_draw_state, state_after};
 use gx_base::NoMemory;
 use std::alloc::Global;
 
@@ -13,7 +13,7 @@ use std::alloc::Global;
 pub fn draw(seed: u64, k: u64) -> u64
     ensures { result ≡ draw seed k }
 {
-    drawn(next_state(state_after(seed, k)))
+    drawn(next_draw_state(state_after(seed, k)))
 }
 
 /// The worker of turn k.
@@ -32,13 +32,13 @@ pub fn sched(seed: u64, k: u64, workers: u32) -> u32
 /// The workers of so many turns.
 pub fn schedule(alloc: Global, seed: u64, workers: u32, turns: u64) -> Result<Vec<u32>, NoMemory>
     requires { 1 ≤ workers }
-    ensures turns { IfOk result (λ all. all.items ≡ schedule_of seed workers turns) }
+    ensures turns { IfOk result (λ all. all.items ≡ scheduled_turns seed workers turns) }
     ensures within { IfOk result (λ all. All (λ worker. worker < workers) all.items) }
 {
     let mut all = Vec::new(alloc);
     let mut state = seed;
     for turn in 0..turns {
-        state = next_state(state);
+        state = next_draw_state(state);
         all.push(worker_of(seed, turn, state, workers))?;
     }
     Ok(all)

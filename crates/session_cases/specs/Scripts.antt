@@ -6,11 +6,11 @@ use Rattle.gx_base.specs.declared.calls.Reply.{Reply}
 use Rattle.gx_base.specs.Plans.{Plan, Call, Push, Done}
 
 -- the acts, up to their end, as a plan. A call past the rooms is an end
-abbrev pub plan_of : ℕ → List Act → Plan
-plan_of rooms [] = Done
-plan_of rooms (acts.Call room call ∷ rest) = if nat_lt room rooms then Call room call (λ reply. plan_of rooms rest) else Done
-plan_of rooms (acts.Push item ∷ rest) = Push item (plan_of rooms rest)
-plan_of rooms (acts.Done ∷ rest) = Done
+abbrev pub script_plan : ℕ → List Act → Plan
+script_plan rooms [] = Done
+script_plan rooms (acts.Call room call ∷ rest) = if nat_lt room rooms then Call room call (λ reply. script_plan rooms rest) else Done
+script_plan rooms (acts.Push item ∷ rest) = Push item (script_plan rooms rest)
+script_plan rooms (acts.Done ∷ rest) = Done
 
 abbrev pub act_within : ℕ → Act → Act
 act_within rooms (acts.Call room call) = if nat_lt room rooms then acts.Call room call else acts.Done
@@ -28,7 +28,7 @@ start_of acts (pos place) = place
 start_of acts (negsuc place) = length acts
 
 abbrev pub rest_at : ℕ → List Act → ℕ → Option Reply → Plan
-rest_at rooms acts at last = plan_of rooms (drop at acts)
+rest_at rooms acts at last = script_plan rooms (drop at acts)
 
 abbrev pub acts_left : List Act → ℕ → ℕ
 acts_left acts at = length acts - at

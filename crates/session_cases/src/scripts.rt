@@ -61,13 +61,13 @@ impl Operator for Scripts {
     type St = Place;
 
     ghost use Rattle.std.specs.Prelude.{false};
-    ghost use Rattle.session_cases.specs.Scripts.{plan_of, rest_at, acts_left};
+    ghost use Rattle.session_cases.specs.Scripts.{script_plan, rest_at, acts_left};
 
     ghost is_ordered = { λ _. false };
 
     ghost room_count = { λ scripts. scripts.rooms };
 
-    ghost plan = { λ scripts item. plan_of scripts.rooms (drop (start_of scripts.acts.items item.k0) scripts.acts.items) };
+    ghost plan = { λ scripts item. script_plan scripts.rooms (drop (start_of scripts.acts.items item.k0) scripts.acts.items) };
 
     ghost rest = { λ scripts place last. rest_at scripts.rooms scripts.acts.items place.at last };
 

@@ -12,18 +12,18 @@ use Rattle.gx_base.specs.RegisterDeeds.{Use, Nothing, On, Reads, Adds, Sets}
 use Rattle.gx_base.specs.States.{State, row_cmp, IsNumberRow}
 use Rattle.gx_base.specs.Steps.{IsState}
 use Rattle.gx_base.proofs.CallerLemmas.{cells_use-foreign}
-use Rattle.number_rows.specs.NumberRows.{rows_of}
+use Rattle.number_rows.specs.NumberRows.{number_rows_of}
 use Rattle.number_rows.specs.NumbersAsRows.{rows_onto}
 use Rattle.number_rows.proofs.CallerLemmas.{number-fits, HoldNumbers-rows_onto}
 use Rattle.shared_sets.specs.declared.numbered_cells.Cells.{Cells}
 
 -- the state of cells
 abbrev pub cells_state : Cells → State
-cells_state cells = record { kind = kind_number CellsKind; rows = rows_onto map.empty 0 (rows_of cells.numbers) }
+cells_state cells = record { kind = kind_number CellsKind; rows = rows_onto map.empty 0 (number_rows_of cells.numbers) }
 
 -- the key has its row
 abbrev pub has_cell : Cells → ℤ → Bool
-has_cell cells k = map.contains_key (rows_of cells.numbers) k
+has_cell cells k = map.contains_key (number_rows_of cells.numbers) k
 
 abbrev pub room_for : Use → Bool → Bool
 room_for Nothing there = true
@@ -45,4 +45,4 @@ pub foreign-has_cells_room : (cells : Cells) (made : Made) → is_method (cells_
 foreign-has_cells_room cells made foreign = subst (λ u. IsTrue (room_for u (has_cell cells made.call.a))) (sym (cells_use-foreign made.call.method foreign)) refl
 
 pub cells_state-IsState : (cells : Cells) → IsState (cells_state cells)
-cells_state-IsState cells = HoldNumbers-rows_onto map.empty 0 (rows_of cells.numbers) (λ key. subst IsNumberRow (sym (map.get-empty row_cmp key)) tt) (number-fits cells.numbers)
+cells_state-IsState cells = HoldNumbers-rows_onto map.empty 0 (number_rows_of cells.numbers) (λ key. subst IsNumberRow (sym (map.get-empty row_cmp key)) tt) (number-fits cells.numbers)

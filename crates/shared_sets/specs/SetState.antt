@@ -14,17 +14,17 @@ use Rattle.gx_base.specs.SetKind.{SetDeed, Add, Remove, Contains, Nothing, set_d
 use Rattle.gx_base.specs.States.{State}
 use Rattle.gx_base.specs.Steps.{IsState}
 use Rattle.gx_base.proofs.CallerLemmas.{set_deed-foreign}
-use Rattle.number_rows.specs.NumberRows.{rows_of}
+use Rattle.number_rows.specs.NumberRows.{number_rows_of}
 use Rattle.shared_sets.specs.declared.marked_set.SharedSet.{SharedSet}
 use Rattle.shared_sets.specs.SetRows.{set_rows, set_rows-IsMark}
 
 -- the state of a set
 abbrev pub set_state : SharedSet → State
-set_state set = record { kind = kind_number Set; rows = set_rows (rows_of set.marks) }
+set_state set = record { kind = kind_number Set; rows = set_rows (number_rows_of set.marks) }
 
 -- the number has its row, be it present or not
 abbrev pub has_mark : SharedSet → ℤ → Bool
-has_mark set x = map.contains_key (rows_of set.marks) x
+has_mark set x = map.contains_key (number_rows_of set.marks) x
 
 -- bringing a number in, or taking it out
 abbrev pub turn_to : Bool → RowAction
@@ -54,4 +54,4 @@ pub foreign-has_set_room : (set : SharedSet) (made : Made) → is_method (set_st
 foreign-has_set_room set made foreign = subst (λ d. IsTrue (room_for d (has_mark set made.call.a) made.reply)) (sym (set_deed-foreign made.call.method foreign)) refl
 
 pub set_state-IsState : (set : SharedSet) → IsState (set_state set)
-set_state-IsState set key = set_rows-IsMark (rows_of set.marks) key
+set_state-IsState set key = set_rows-IsMark (number_rows_of set.marks) key

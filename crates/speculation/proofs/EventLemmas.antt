@@ -16,7 +16,7 @@ use Rattle.speculation.specs.Events as event
 use Rattle.speculation.specs.Sessions.{Session, Phase, Idle, Running, Finished, Undoing, Ahead, Asks, Ends, ahead, last_step}
 use Rattle.speculation.specs.Machines.{Machine, Place, place_of, settled, reply_in, named_off, given_up, committed, Turned, take, live_at, answer, entry_of, undo_step, undo, finish, go, turn_in, turn_at, turn}
 use Rattle.speculation.specs.EventRows.{IsFirstInWay, IsAsking, IsFinished, HasToUndo, Happens}
-use Rattle.speculation.specs.ScheduledRuns.{is_empty, Run, begun, then_turned, scheduled, drain, alone, drained, played}
+use Rattle.speculation.specs.ScheduledRuns.{is_empty, Run, begun, then_turned, scheduled, drain, lone_run, drained, played}
 use Rattle.speculation.specs.RunResults.{IsScheduledRun, IsLoneRun, IsWholeScheduledRun}
 use Rattle.speculation.proofs.Putting.{both_are}
 use Rattle.speculation.proofs.Steps.{last_is_none}
@@ -174,23 +174,23 @@ module _ (op : Operator) where
 
   -- ---- whole runs
 
-  lone_by : (m : Machine) (turns : ℕ) (b : Bool) → is_empty m.book.ready ≡ b → (b ≡ false → IsLoneRun op (turn op m 0) turns (alone op (turn op m 0) turns))
-      → IsLoneRun op m (suc turns) (if b then m else alone op (turn op m 0) turns)
+  lone_by : (m : Machine) (turns : ℕ) (b : Bool) → is_empty m.book.ready ≡ b → (b ≡ false → IsLoneRun op (turn op m 0) turns (lone_run op (turn op m 0) turns))
+      → IsLoneRun op m (suc turns) (if b then m else lone_run op (turn op m 0) turns)
   lone_by m turns true e f = inl (e, refl)
   lone_by m turns false e f = inr (e, ((turn_at op (place_of m 0) 0).event, turn op m 0, happens op m 0, f refl))
 
-  is_lone : (m : Machine) (turns : ℕ) → IsLoneRun op m turns (alone op m turns)
-  unfolding alone
+  is_lone : (m : Machine) (turns : ℕ) → IsLoneRun op m turns (lone_run op m turns)
+  unfolding lone_run
   is_lone m zero = refl
   is_lone m (suc turns) = lone_by m turns (is_empty m.book.ready) refl (λ e. is_lone (turn op m 0) turns)
 
-  one_lone : (m last : Machine) (turns : ℕ) → IsLoneRun op m turns last → last ≡ alone op m turns
-  unfolding alone
+  one_lone : (m last : Machine) (turns : ℕ) → IsLoneRun op m turns last → last ≡ lone_run op m turns
+  unfolding lone_run
   one_lone m last zero h = h
-  one_lone m last (suc turns) (inl h) = h.1 ∙ sym (ap (λ (b : Bool). if b then m else alone op (turn op m 0) turns) h.0)
+  one_lone m last (suc turns) (inl h) = h.1 ∙ sym (ap (λ (b : Bool). if b then m else lone_run op (turn op m 0) turns) h.0)
   one_lone m last (suc turns) (inr h) =
       let p : IsTurned op m 0 (h.1).0 (h.1).1 (turn_at op (place_of m 0) 0) = no_other op m 0 (h.1).0 (h.1).1 (h.1).2 in
-      one_lone (h.1).1 last turns (h.1).3 ∙ ap (λ n. alone op n turns) p.1 ∙ sym (ap (λ (b : Bool). if b then m else alone op (turn op m 0) turns) h.0)
+      one_lone (h.1).1 last turns (h.1).3 ∙ ap (λ n. lone_run op n turns) p.1 ∙ sym (ap (λ (b : Bool). if b then m else lone_run op (turn op m 0) turns) h.0)
 
   pub is_whole : (m : Machine) (workers : ℕ) (schedule : List ℕ) (turns : ℕ) → IsWholeScheduledRun op m workers schedule turns (played op m workers schedule turns)
   unfolding played drained
@@ -202,6 +202,6 @@ module _ (op : Operator) where
   unfolding played drained
   one_whole m workers schedule turns last h =
       let same : h.0 ≡ scheduled op (begun m) schedule = one_run (begun m) h.0 schedule h.1 in
-      let machines : last.machine ≡ alone op (drain (scheduled op (begun m) schedule) workers).machine turns = one_lone (drain h.0 workers).machine last.machine turns h.2 ∙ ap (λ (r : Run). alone op (drain r workers).machine turns) same in
+      let machines : last.machine ≡ lone_run op (drain (scheduled op (begun m) schedule) workers).machine turns = one_lone (drain h.0 workers).machine last.machine turns h.2 ∙ ap (λ (r : Run). lone_run op (drain r workers).machine turns) same in
       let traces : last.trace ≡ (drain (scheduled op (begun m) schedule) workers).trace = h.3 ∙ ap (λ (r : Run). (drain r workers).trace) same in
       λ i. record { machine = machines i; trace = traces i }

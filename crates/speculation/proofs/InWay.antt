@@ -6,7 +6,7 @@ use Rattle.gx_base.specs.States.{State}
 use Rattle.gx_base.specs.Steps.{next_state}
 use Rattle.gx_base.specs.Tables.{Rows}
 use Rattle.gate_core.specs.Replays.{after, pair_ok, further, first_failing}
-use Rattle.gate_core.specs.Views.{GateView, rows_of, live_start, in_way}
+use Rattle.gate_core.specs.Views.{GateView, gate_rows, live_start, in_way}
 use Rattle.speculation.specs.EventRows.{NoneInWay, IsFirstInWay}
 use Rattle.speculation.specs.Machines.{live_at}
 
@@ -88,18 +88,18 @@ held_is (e ∷ es) (suc place) held default h = held_is es place held default h
 -- ---- gates
 
 pub none_in_way : (g : GateView) (asked : Entry) → in_way g asked ≡ None → NoneInWay g asked
-none_in_way g asked n = all_stand (rows_of g) asked (live_start g) g.live n
+none_in_way g asked n = all_stand (gate_rows g) asked (live_start g) g.live n
 
 pub nothing_found : (g : GateView) (asked : Entry) → NoneInWay g asked → in_way g asked ≡ None
-nothing_found g asked a = none_fails (rows_of g) asked (live_start g) g.live a
+nothing_found g asked a = none_fails (gate_rows g) asked (live_start g) g.live a
 
 pub first_in_way : (g : GateView) (asked : Entry) (place : ℕ) → in_way g asked ≡ Some place → IsFirstInWay g asked (live_at g place asked)
 first_in_way g asked place k =
-    let f : FirstFails (rows_of g) asked (live_start g) g.live place (live_at g place asked) = first_fails (rows_of g) asked asked (live_start g) g.live place k in
+    let f : FirstFails (gate_rows g) asked (live_start g) g.live place (live_at g place asked) = first_fails (gate_rows g) asked asked (live_start g) g.live place k in
     record { place = place; is_there = f.0; in_way = f.1; is_first = f.2 }
 
 pub found_in_way : (g : GateView) (asked held : Entry) → (f : IsFirstInWay g asked held) → in_way g asked ≡ Some f.place
-found_in_way g asked held f = finds (rows_of g) asked (live_start g) g.live f.place held (f.is_there, f.in_way, f.is_first)
+found_in_way g asked held f = finds (gate_rows g) asked (live_start g) g.live f.place held (f.is_there, f.in_way, f.is_first)
 
 pub held_in_way : (g : GateView) (asked held : Entry) → (f : IsFirstInWay g asked held) → live_at g f.place asked ≡ held
 held_in_way g asked held f = held_is g.live f.place held asked f.is_there

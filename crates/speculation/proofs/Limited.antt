@@ -16,7 +16,7 @@ use Rattle.speculation.specs.Events.{Event}
 use Rattle.speculation.specs.Events as event
 use Rattle.speculation.specs.Sessions.{Session, Phase, Idle, Running, Finished, Undoing, is_idle, ended, undoing, undone_to, Ahead, Asks, Ends, ahead, last_step, steps_before, has_no_step}
 use Rattle.speculation.specs.Machines.{Machine, Place, place_of, settled, named_off, let_go, given_up, committed, Turned, take, live_at, answer, entry_of, undo_step, undo, finish, go, turn_in, turn_at, turn}
-use Rattle.speculation.specs.ScheduledRuns.{is_empty, Run, begun, then_turned, scheduled, drain_step, drain_steps, drain_worker, drain, alone, drained, played, AllBelow}
+use Rattle.speculation.specs.ScheduledRuns.{is_empty, Run, begun, then_turned, scheduled, drain_step, drain_steps, drain_worker, drain, lone_run, drained, played, AllBelow}
 use Rattle.speculation.specs.Premises.{IsNew}
 use Rattle.speculation.specs.Limits.{Limit, Spent, Kept, limit_of, limit_at, limit_in, or_later, limit_of_scheduled, limit_of_alone, limit_of_played, EndsOrPasses}
 use Rattle.speculation.specs.RunResults.{EndsOrCommits}
@@ -133,11 +133,11 @@ module _ (op : Operator) where
       let none : (limit_in op r.machine worker ≡ None) × (limit_of_scheduled op next schedule ≡ None) = neither_later (limit_in op r.machine worker) (limit_of_scheduled op next schedule) (not_empty_limit (is_empty r.machine.book.ready) _ e n) in
       scheduled_within schedule next none.1 (turn_within r.machine worker none.0 h))
 
-  alone_within : (turns : ℕ) (m : Machine) → limit_of_alone op m turns ≡ None → Within m → Within (alone op m turns)
-  unfolding alone limit_of_alone
+  alone_within : (turns : ℕ) (m : Machine) → limit_of_alone op m turns ≡ None → Within m → Within (lone_run op m turns)
+  unfolding lone_run limit_of_alone
   alone_within zero m n h = h
   alone_within (suc turns) m n h =
-      chosen_machine Within (is_empty m.book.ready) m (alone op (turn op m 0) turns) (λ _. h)
+      chosen_machine Within (is_empty m.book.ready) m (lone_run op (turn op m 0) turns) (λ _. h)
       (λ e.
       let none : (limit_in op m 0 ≡ None) × (limit_of_alone op (turn op m 0) turns ≡ None) = neither_later (limit_in op m 0) (limit_of_alone op (turn op m 0) turns) (not_empty_limit (is_empty m.book.ready) _ e n) in
       alone_within turns (turn op m 0) none.1 (turn_within m 0 none.0 h))

@@ -11,7 +11,7 @@ use Rattle.gx_base.specs.Replays.{put}
 use Rattle.gx_base.specs.SerialIterations.{may_commit}
 use Rattle.gx_base.specs.Worklists.{has_item, is_least}
 use Rattle.gate_core.specs.Entries.{Each, is_of, entries_of, others_than}
-use Rattle.gate_core.specs.Views.{rows_of, live_start, asked_entry, in_way}
+use Rattle.gate_core.specs.Views.{gate_rows, live_start, asked_entry, in_way}
 use Rattle.gate_core.proofs.CallerLemmas.{none_in_way}
 use Rattle.gate_core.proofs.lists.EntryLists.{both_true}
 use Rattle.commit_book.specs.BookViews.{Hold, first_free, with_hold, without_iteration, is_named}
@@ -19,7 +19,7 @@ use Rattle.commit_book.proofs.ready.ReadySets.{has_item-first}
 use Rattle.speculation.specs.Events as event
 use Rattle.speculation.specs.Sessions.{Session, Phase, Idle, Running, Finished, Undoing, is_idle, begun_on, ended, with_call, Ahead, Asks, Ends, ahead}
 use Rattle.speculation.specs.Machines.{Machine, place_of, settled, reply_in, given_up, committed, Turned, take, answer, entry_of, undo, go, turn_in, turn_at, turn}
-use Rattle.speculation.specs.ScheduledRuns.{is_empty, alone}
+use Rattle.speculation.specs.ScheduledRuns.{is_empty, lone_run}
 use Rattle.speculation.specs.Premises.{IsInOrder}
 use Rattle.speculation.proofs.Putting.{no_bool, both_are, put_same, put_other, put_holds, same_number, numbers_equal}
 use Rattle.speculation.proofs.IterationEntries.{IsCurrent, current_of, none_first}
@@ -88,7 +88,7 @@ module _ (op : Operator) (starts : ℕ → State) (first : List Item) where
 
   clear : (m : Machine) (s : Session) (room : ℕ) (call : CallOf) → Sound m → (m.sessions 0).iter ≡ s.iter → ((v : ℕ) → (0 == v) ≡ false → IdleAt m v) → in_way (m.gates room) (asked_entry 0 s.iter s.item call (m.gates room).state) ≡ None
   clear m s room call h i idle =
-      none_in_way (rows_of (m.gates room)) (asked_entry 0 s.iter s.item call (m.gates room).state) (live_start (m.gates room)) (m.gates room).live
+      none_in_way (gate_rows (m.gates room)) (asked_entry 0 s.iter s.item call (m.gates room).state) (live_start (m.gates room)) (m.gates room).live
       (subst (λ iter. others_than 0 iter (m.gates room).live ≡ []) i
       (no_others (λ v. (m.sessions v).iter) (λ v. (m.sessions v).item) (m.gates room).live (λ v. (h.logs room v).current) (λ v n. idle_entries op ⊥ starts first m room v h (idle v n))))
 
@@ -213,11 +213,11 @@ module _ (op : Operator) (starts : ℕ → State) (first : List Item) where
     AtEnd m = (is_empty m.book.ready ≡ true) ⊎ (limit ≤ length m.book.commits)
 
     abbrev pub ComesToEnd : Machine → Type 0
-    ComesToEnd m = (turns : ℕ) × AtEnd (alone op m turns)
+    ComesToEnd m = (turns : ℕ) × AtEnd (lone_run op m turns)
 
     one_turn : (m : Machine) → is_empty m.book.ready ≡ false → ComesToEnd (turn op m 0) → ComesToEnd m
-    unfolding alone
-    one_turn m e h = (suc h.0, subst (λ (b : Bool). AtEnd (if b then m else alone op (turn op m 0) h.0)) (sym e) h.1)
+    unfolding lone_run
+    one_turn m e h = (suc h.0, subst (λ (b : Bool). AtEnd (if b then m else lone_run op (turn op m 0) h.0)) (sym e) h.1)
 
     abbrev Then : ℕ → Type 0
     Then count = (n : Machine) → Sound n → IsTidy n → Rests n (suc count) → ComesToEnd n
@@ -251,7 +251,7 @@ module _ (op : Operator) (starts : ℕ → State) (first : List Item) where
     body_ends count plan = body_by count plan (rests_end count plan)
 
     lone_by : (j : ℕ) (m : Machine) (count : ℕ) (ready : List Item) → m.book.ready ≡ ready → Sound m → IsTidy m → Rests m count → Then count → ComesToEnd m
-    unfolding alone
+    unfolding lone_run
     lone_by j m count [] e h t r next = (zero, inl (ap is_empty e))
     lone_by j m count (item ∷ items) e h t r next =
         let n : is_empty m.book.ready ≡ false = ap is_empty e in
@@ -259,6 +259,6 @@ module _ (op : Operator) (starts : ℕ → State) (first : List Item) where
         one_turn m n (body_ends count b.plan (turn op m 0) b.commits (turn_is_sound ⊥ op starts first m 0 (λ none. absurd none) h) (tidy_turn op m 0 t) b.works next)
 
     pub lone_ends : (j : ℕ) (m : Machine) (count : ℕ) → Sound m → IsTidy m → Rests m count → limit ≤ count + j → ComesToEnd m
-    unfolding alone
+    unfolding lone_run
     lone_ends zero m count h t r l = (zero, inr (let c : length m.book.commits ≡ count = r.commits in omega arith))
     lone_ends (suc j) m count h t r l = lone_by j m count m.book.ready refl h t r (λ n h' t' r'. lone_ends j n (suc count) h' t' r' (omega arith))

@@ -11,7 +11,7 @@ use Rattle.gate_core.specs.Views.{undo_last}
 use Rattle.commit_book.specs.BookViews.{put_back}
 use Rattle.speculation.specs.Sessions.{Session, is_idle, ended, undone_to, last_step, steps_before, has_no_step}
 use Rattle.speculation.specs.Machines.{Machine, place_of, settled, let_go, undo_step, undo, turn_at, turn}
-use Rattle.speculation.specs.ScheduledRuns.{is_empty, Run, begun, then_turned, scheduled, drain_step, drain_steps, drain_worker, drain, alone, drained, played, AllBelow}
+use Rattle.speculation.specs.ScheduledRuns.{is_empty, Run, begun, then_turned, scheduled, drain_step, drain_steps, drain_worker, drain, lone_run, drained, played, AllBelow}
 use Rattle.speculation.specs.Premises.{IsNew, ScheduledAsk, AloneAsk, AsksCalls}
 use Rattle.speculation.specs.RunResults.{object_states}
 use Rattle.speculation.proofs.Putting.{no_bool, put_same, numbers_equal, same_number}
@@ -79,11 +79,11 @@ module _ (claim : Type 0) (op : Operator) (starts : ℕ → State) (first : List
   drain_is_sound zero r h = h
   drain_is_sound (suc worker) r h = steps_are_sound (suc (length ((drain r worker).machine.sessions worker).outcome.steps)) (drain r worker) worker (drain_is_sound worker r h)
 
-  pub alone_is_sound : (n : ℕ) (m : Machine) → (claim → AloneAsk op m n) → Sound m → Sound (alone op m n)
-  unfolding alone
+  pub alone_is_sound : (n : ℕ) (m : Machine) → (claim → AloneAsk op m n) → Sound m → Sound (lone_run op m n)
+  unfolding lone_run
   alone_is_sound zero m a h = h
   alone_is_sound (suc n) m a h =
-      chosen_machine Sound (is_empty m.book.ready) m (alone op (turn op m 0) n) (λ e. h) (λ e. alone_is_sound n (turn op m 0) (λ c. (a c e).1) (turn_is_sound claim op starts first m 0 (λ c. (a c e).0) h))
+      chosen_machine Sound (is_empty m.book.ready) m (lone_run op (turn op m 0) n) (λ e. h) (λ e. alone_is_sound n (turn op m 0) (λ c. (a c e).1) (turn_is_sound claim op starts first m 0 (λ c. (a c e).0) h))
 
 module _ (claim : Type 0) (op : Operator) where
   pub drained_is_sound : (m : Machine) (workers : ℕ) (schedule : List ℕ) → IsNew op m → (claim → ScheduledAsk op (begun m) schedule) → SoundMachine claim op (object_states m) m.book.ready (drained op m workers schedule).machine
@@ -243,11 +243,11 @@ module _ (op : Operator) where
   abbrev IdlesIfEmpty : ℕ → Machine → Type 0
   IdlesIfEmpty v m = is_empty m.book.ready ≡ true → IdleAt m v
 
-  lone_idles : (n : ℕ) (m : Machine) (v : ℕ) → Lone m → IdlesIfEmpty v (alone op m n)
-  unfolding alone
+  lone_idles : (n : ℕ) (m : Machine) (v : ℕ) → Lone m → IdlesIfEmpty v (lone_run op m n)
+  unfolding lone_run
   lone_idles zero m v h = λ e. lone_ends_by m v (0 == v) refl h e
   lone_idles (suc n) m v h =
-      chosen_machine (IdlesIfEmpty v) (is_empty m.book.ready) m (alone op (turn op m 0) n) (λ k e. lone_ends_by m v (0 == v) refl h e) (λ k. lone_idles n (turn op m 0) v (lone_turn m h k))
+      chosen_machine (IdlesIfEmpty v) (is_empty m.book.ready) m (lone_run op (turn op m 0) n) (λ k e. lone_ends_by m v (0 == v) refl h e) (λ k. lone_idles n (turn op m 0) v (lone_turn m h k))
 
   -- a run that ends with nothing ready ends with all workers idle
   pub played_idles : (m : Machine) (workers : ℕ) (schedule : List ℕ) (turns v : ℕ) → IsNew op m → AllBelow schedule workers → is_empty (played op m workers schedule turns).machine.book.ready ≡ true

@@ -7,7 +7,7 @@ use Rattle.gx_base.specs.declared.acts.Step.{Step}
 use Rattle.gx_base.specs.Plans.{Plan, Operator}
 use Rattle.gx_base.specs.Worklists.{has_item, is_before, is_least}
 use Rattle.gate_core.specs.Replays.{after, pair_ok}
-use Rattle.gate_core.specs.Views.{GateView, rows_of, live_start}
+use Rattle.gate_core.specs.Views.{GateView, gate_rows, live_start}
 use Rattle.commit_book.specs.BookViews.{free_item, is_named, is_in_turn}
 use Rattle.speculation.specs.Events.{Event}
 use Rattle.speculation.specs.Events as event
@@ -19,7 +19,7 @@ use Rattle.speculation.specs.Machines.{Machine, place_of, settled, taken, reply_
 -- the uncommitted entry at this place and the one asked are of one iteration, or their row is true, where the state functions are
 -- those of the state before the earlier one
 abbrev pub may_stand : GateView → ℕ → Entry → Entry → Bool
-may_stand g place held asked = pair_ok (rows_of g) (after (live_start g) (take place g.live)) held asked
+may_stand g place held asked = pair_ok (gate_rows g) (after (live_start g) (take place g.live)) held asked
 
 -- each uncommitted entry may stand with the one asked
 abbrev pub NoneInWay : GateView → Entry → Type 0

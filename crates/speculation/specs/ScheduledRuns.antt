@@ -49,9 +49,9 @@ drain r zero = r
 drain r (suc worker) = drain_worker (drain r worker) worker
 
 -- worker 0 alone takes at most so many turns, until nothing is ready
-unfoldable pub alone : Operator → Machine → ℕ → Machine
-alone op m zero = m
-alone op m (suc n) = if is_empty m.book.ready then m else alone op (turn op m 0) n
+unfoldable pub lone_run : Operator → Machine → ℕ → Machine
+lone_run op m zero = m
+lone_run op m (suc n) = if is_empty m.book.ready then m else lone_run op (turn op m 0) n
 
 -- the scheduled turns and the drain, from a machine that has made no turn
 unfoldable pub drained : Operator → Machine → ℕ → List ℕ → Run
@@ -59,7 +59,7 @@ drained op m workers schedule = drain (scheduled op (begun m) schedule) workers
 
 -- then worker 0 alone. Its turns aren't traced
 unfoldable pub played : Operator → Machine → ℕ → List ℕ → ℕ → Run
-played op m workers schedule turns = record (drained op m workers schedule) { machine = alone op (drained op m workers schedule).machine turns }
+played op m workers schedule turns = record (drained op m workers schedule) { machine = lone_run op (drained op m workers schedule).machine turns }
 
 -- each number of the schedule is below the number of workers
 abbrev pub AllBelow : List ℕ → ℕ → Type 0

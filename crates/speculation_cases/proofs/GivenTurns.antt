@@ -9,7 +9,7 @@ use Rattle.gx_base.specs.Replays.{put}
 use Rattle.gx_base.specs.Tables.{Rows}
 use Rattle.gate_core.specs.Replays.{first_failing}
 use Rattle.gx_base.specs.Steps.{next_state, observed}
-use Rattle.gate_core.specs.Views.{GateView, rows_of, live_start, in_way}
+use Rattle.gate_core.specs.Views.{GateView, gate_rows, live_start, in_way}
 use Rattle.commit_book.specs.BookViews.{free_item}
 use Rattle.speculation.specs.Events as event
 use Rattle.speculation.specs.Sessions.{Session, Phase, Idle, Running, Finished, Undoing, with_call, Ahead, Asks, Ends, ahead}
@@ -58,7 +58,7 @@ run_given op r (g ∷ gs) = run_given op (then_turned r g.worker (turn_given op 
 
 -- the gate has these rows, and by them the entry that is given is in the way, and the reply is that of the room's state
 pub record IsRight (rows : Rows) (p : Place) (worker : ℕ) (s : Session) (room : ℕ) (call : CallOf) (way : Option ℕ) (reply : Reply) : Type 0 where
-  pub has_rows : rows_of (p.gates room) ≡ rows
+  pub has_rows : gate_rows (p.gates room) ≡ rows
   pub first : first_failing rows (live_start (p.gates room)) (p.gates room).live (entry_of p worker s room call) ≡ way
   pub replies : reply_in p room call ≡ reply
 

@@ -10,7 +10,7 @@ use Rattle.preflow_push.specs.Discharge.{discharge_operator}
 use Rattle.speculation.specs.Machines.{Machine, turn}
 use Rattle.speculation.specs.Premises.{ScheduledAsk, AloneAsk, AsksCalls}
 use Rattle.speculation.specs.RunResults.{IsSerialInTheEnd}
-use Rattle.speculation.specs.ScheduledRuns.{is_empty, Run, begun, scheduled, drain, drain_worker, alone, drained, played, AllBelow}
+use Rattle.speculation.specs.ScheduledRuns.{is_empty, Run, begun, scheduled, drain, drain_worker, lone_run, drained, played, AllBelow}
 use Rattle.speculation.proofs.Theorems.{runs_are_serial}
 use Rattle.speculation_cases.specs.Beginnings.{HasPreciseRows}
 use Rattle.speculation_cases.specs.Diamond.{net, diamond, alternating}
@@ -55,10 +55,10 @@ pub diamond_is_serial : (table : RowMap) (turns : ℕ) → HasPreciseRows flow_t
 diamond_is_serial table turns h =
     runs_are_serial (discharge_operator net) (diamond table) 2 (alternating 50) turns (diamond_is_new table h) (both_below 50) (diamond_asks_calls table turns (λ i first second. h first second i))
 
-stays_empty : (op : Operator) (m : Machine) (turns : ℕ) → is_empty m.book.ready ≡ true → is_empty (alone op m turns).book.ready ≡ true
-unfolding alone
+stays_empty : (op : Operator) (m : Machine) (turns : ℕ) → is_empty m.book.ready ≡ true → is_empty (lone_run op m turns).book.ready ≡ true
+unfolding lone_run
 stays_empty op m zero e = e
-stays_empty op m (suc turns) e = ap (λ (b : Bool). is_empty (Machine.book (if b then m else alone op (turn op m 0) turns)).ready) e ∙ e
+stays_empty op m (suc turns) e = ap (λ (b : Bool). is_empty (Machine.book (if b then m else lone_run op (turn op m 0) turns)).ready) e ∙ e
 
 pub diamond_ends : (table : RowMap) (turns : ℕ) → HasPreciseRows flow_tables table → is_empty (played (discharge_operator net) (diamond table) 2 (alternating 50) turns).machine.book.ready ≡ true
 unfolding played

@@ -73,12 +73,12 @@ pub record Wanted : Type 0 where
   pub turns : Bool
   pub told : Bool
 
-abbrev pub only_if : Bool → List ℕ → List ℕ
-only_if wanted text = if wanted then text else []
+abbrev pub if_wanted : Bool → List ℕ → List ℕ
+if_wanted wanted text = if wanted then text else []
 
 -- of each turn its own line, and then that which tells its conflict, as they are wanted
 abbrev pub turn_text : Wanted → Turn → List ℕ
-turn_text wanted turn = only_if wanted.turns (turn_line turn) ++ only_if wanted.told (told_text turn.number turn.event)
+turn_text wanted turn = if_wanted wanted.turns (turn_line turn) ++ if_wanted wanted.told (told_text turn.number turn.event)
 
 abbrev pub trace_text : Wanted → List Turn → List ℕ
 trace_text wanted turns = flat_map (turn_text wanted) turns

@@ -1,6 +1,6 @@
 ghost use Rattle.std.specs.Prelude.{◌≡◌, ◌++◌, OnOk};
 ghost use Rattle.iterate.specs.EventViews.{turn_of, turns_of};
-ghost use Rattle.traces.specs.Traces.{only_if, told_text, turn_line, turn_text, trace_text};
+ghost use Rattle.traces.specs.Traces.{if_wanted, told_text, turn_line, turn_text, trace_text};
 
 use crate::events::{put_told, put_turn};
 use iterate::{Event, Turn};
@@ -30,7 +30,7 @@ fn put_lines(text: &mut Vec<u8>, turn: &Turn, lines: bool, told: bool) -> Result
 }
 
 fn put_turn_if(text: &mut Vec<u8>, turn: &Turn, lines: bool) -> Result<(), AllocError>
-    ensures { OnOk result (text.new.items ≡ text.old.items ++ only_if lines (turn_line (turn_of turn.now))) }
+    ensures { OnOk result (text.new.items ≡ text.old.items ++ if_wanted lines (turn_line (turn_of turn.now))) }
 {
     if !lines {
         return Ok(());
@@ -39,7 +39,7 @@ fn put_turn_if(text: &mut Vec<u8>, turn: &Turn, lines: bool) -> Result<(), Alloc
 }
 
 fn put_told_if(text: &mut Vec<u8>, turn: &Turn, told: bool) -> Result<(), AllocError>
-    ensures { OnOk result (text.new.items ≡ text.old.items ++ only_if told (told_text turn.now.number (turn_of turn.now).event)) }
+    ensures { OnOk result (text.new.items ≡ text.old.items ++ if_wanted told (told_text turn.now.number (turn_of turn.now).event)) }
 {
     match turn.event {
         Event::Conflict { told: conflict, .. } if told => { put_told(text, turn.number, &conflict) }

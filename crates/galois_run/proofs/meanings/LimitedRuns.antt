@@ -3,7 +3,7 @@ use Rattle.std.specs.Prelude.{◌≡◌, ℕ, zero, suc, Bool, true, false, if�
 use Rattle.std.proofs.Common.{sym, ◌∙◌, ap}
 use Rattle.gx_base.specs.Plans.{Operator}
 use Rattle.speculation.specs.Machines.{Machine, turn}
-use Rattle.speculation.specs.ScheduledRuns.{is_empty, begun, alone, drained, played}
+use Rattle.speculation.specs.ScheduledRuns.{is_empty, begun, lone_run, drained, played}
 use Rattle.speculation.specs.Limits.{Limit, limit_in, or_later, limit_of_scheduled, limit_of_alone, limit_of_played}
 
 some_is : (a b : Limit) → Some a ≡ Some b → a ≡ b
@@ -38,14 +38,14 @@ module _ (op : Operator) where
   none_empty m zero a e p = no_limit a p
   none_empty m (suc turns) a e p = no_limit a (sym (ap (λ (empty : Bool). if empty then None else or_later (limit_in op m 0) (limit_of_alone op (turn op m 0) turns)) e) ∙ p)
 
-  never_alone : (m : Machine) (turns turns' : ℕ) (a : Limit) → limit_of_alone op m turns ≡ None → is_empty (alone op m turns).book.ready ≡ true → limit_of_alone op m turns' ≡ Some a → ⊥
-  unfolding limit_of_alone alone
+  never_alone : (m : Machine) (turns turns' : ℕ) (a : Limit) → limit_of_alone op m turns ≡ None → is_empty (lone_run op m turns).book.ready ≡ true → limit_of_alone op m turns' ≡ Some a → ⊥
+  unfolding limit_of_alone lone_run
   never_alone m zero turns' a n e p = none_empty m turns' a e p
   never_alone m (suc turns) zero a n e p = no_limit a p
   never_alone m (suc turns) (suc turns') a n e p = by_ready (never_alone (turn op m 0) turns turns' a) (is_empty m.book.ready) n e p
     where
-      by_ready : (limit_of_alone op (turn op m 0) turns ≡ None → is_empty (alone op (turn op m 0) turns).book.ready ≡ true → limit_of_alone op (turn op m 0) turns' ≡ Some a → ⊥) → (empty : Bool) → (if empty then None else or_later (limit_in op m 0) (limit_of_alone op (turn op m 0) turns)) ≡ None
-          → is_empty (Machine.book (if empty then m else alone op (turn op m 0) turns)).ready ≡ true
+      by_ready : (limit_of_alone op (turn op m 0) turns ≡ None → is_empty (lone_run op (turn op m 0) turns).book.ready ≡ true → limit_of_alone op (turn op m 0) turns' ≡ Some a → ⊥) → (empty : Bool) → (if empty then None else or_later (limit_in op m 0) (limit_of_alone op (turn op m 0) turns)) ≡ None
+          → is_empty (Machine.book (if empty then m else lone_run op (turn op m 0) turns)).ready ≡ true
           → (if empty then None else or_later (limit_in op m 0) (limit_of_alone op (turn op m 0) turns')) ≡ Some a → ⊥
       by_ready later true n e p = no_limit a p
       by_ready later false n e p = never_by (limit_in op m 0) _ _ a (λ n' p'. later n' e p') n p

@@ -14,7 +14,7 @@ use Rattle.speculation.specs.Limits as limits
 use Rattle.galois_run.specs.declared.options.RunOptions.{RunOptions}
 use Rattle.galois_run.specs.LoopRuns.{GateTables, IsReportOf}
 use Rattle.galois_run.specs.LoopCommands.{LoopCommand, AreAccepted, UnderTables, IsReportOn, IsPastOn, loop_meaning}
-use Rattle.galois_run.specs.RunFaults.{fault_of_input, fault_of_limit, FaultsWhere, Answers}
+use Rattle.galois_run.specs.RunFaults.{fault_of_input, fault_of_limit, FaultsWhere, FaultAnswers}
 use Rattle.galois_run.proofs.meanings.LoopLaws.{LoopLaws, read_or_faulty, read_or_large, faulty_or_large, same_line, same_what}
 use Rattle.galois_run.proofs.meanings.LoopLimits.{RunsPast, one_limit, ends_or_passes}
 
@@ -93,7 +93,7 @@ module _ (command : LoopCommand) (laws : LoopLaws command) (options : RunOptions
   passes (Err Kept) limit known = record { only = known.past limit; always = λ p. inl (told_past Kept limits.Kept limit refl (known.past limits.Kept refl) p) }
   passes (Err NoMemory) limit known = record { only = λ e. absurd (no_limit NoMemory limit (λ f. cc) (λ f. cc) e); always = λ p. inr refl }
 
-answers_of : (command : LoopCommand) (laws : LoopLaws command) (options : RunOptions) (all : Inputs) (result : Made) → Known command options all.conditions (main_of all) result → Answers (loop_meaning command options) all result
+answers_of : (command : LoopCommand) (laws : LoopLaws command) (options : RunOptions) (all : Inputs) (result : Made) → Known command options all.conditions (main_of all) result → FaultAnswers (loop_meaning command options) all result
 answers_of command laws options all result known = record {
   reported = known.reported;
   bad_table = known.bad_table;
@@ -108,7 +108,7 @@ pub loop_answers : (command : LoopCommand) (laws : LoopLaws command) (options : 
     → ((line : ℕ) → result ≡ Err (BadInput line) → AreAccepted command conditions × command.calls_for bytes (Err (inputs.Line line)))
     → ((what : What) → result ≡ Err (TooLarge what) → AreAccepted command conditions × command.calls_for bytes (Err (inputs.Large what)))
     → ((limit : Limit) → result ≡ Err (fault_of_limit limit) → UnderTables command options.table conditions (λ tables. IsPastOn command options tables bytes limit))
-    → Answers (loop_meaning command options) all result
+    → FaultAnswers (loop_meaning command options) all result
 loop_answers command laws options all conditions bytes result c e reported bad faulty large past =
     answers_of command laws options all result
     (subst (λ (file : List ℕ). Known command options all.conditions file result) e

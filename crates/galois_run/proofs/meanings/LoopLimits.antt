@@ -2,7 +2,7 @@
 use Rattle.std.proofs.Common.{◌≡◌, ℕ, List, Option, Some, None, Ok, sym, ap, subst, ◌∙◌}
 use Rattle.speculation.specs.Limits.{Limit}
 use Rattle.speculation.specs.ScheduledRuns.{is_empty, Run}
-use Rattle.schedules.specs.Draws.{schedule_of}
+use Rattle.schedules.specs.Draws.{scheduled_turns}
 use Rattle.galois_run.specs.declared.options.RunOptions.{RunOptions}
 use Rattle.galois_run.specs.LoopRuns.{Loop, GateTables, loop_machine, IsLoopRun, IsRunPast}
 use Rattle.galois_run.specs.LoopCommands.{LoopCommand, UnderTables, IsReportOn, IsPastOn, IsWithinOn}
@@ -11,7 +11,7 @@ use Rattle.galois_run.proofs.meanings.LoopLaws.{LoopLaws, one_input}
 
 module _ (options : RunOptions) (tables : GateTables) (loop : Loop) where
   abbrev turns_for : List ℕ
-  turns_for = schedule_of options.seed options.workers options.turns
+  turns_for = scheduled_turns options.seed options.workers options.turns
 
   -- two looks at the run
   same_limit : (a b : Limit) → IsRunPast options tables loop a → IsRunPast options tables loop b → a ≡ b

@@ -8,7 +8,7 @@ use Rattle.speculation.specs.Limits.{Limit}
 use Rattle.speculation.specs.Limits as limit
 use Rattle.speculation.specs.Machines.{Machine}
 use Rattle.speculation.specs.ScheduledRuns.{AllBelow}
-use Rattle.schedules.specs.Draws.{schedule_of}
+use Rattle.schedules.specs.Draws.{scheduled_turns}
 use Rattle.rooms.specs.RoomsViews.{is_held}
 use Rattle.rooms.specs.Values.{tells}
 use Rattle.rooms.specs.Visits.{Visits, AreGatesAndBook, view_of}
@@ -75,20 +75,20 @@ module _ {T S : Type 0} (options : RunOptions) (tables : GateTables) (loop : Loo
       ∙ begun_is T S tables (new_book loop.operator.ordered loop.ready) loop are.states refl are.count are.are_first
 
   pub is_played : (op : Operator) → op ≡ loop.operator → (trace : List Turn) (after : ℕ → Option (Value T S))
-      → IsPlayed op (begun_machine op.rooms (slice_get values)) options.workers (schedule_of options.seed options.workers options.turns) trace after → IsLoopPlayed options tables loop trace after
+      → IsPlayed op (begun_machine op.rooms (slice_get values)) options.workers (scheduled_turns options.seed options.workers options.turns) trace after → IsLoopPlayed options tables loop trace after
   is_played op same trace after played = record {
     empty_past = empty_past loop are.states are.count are.are_first;
     is_played =
-        subst (λ (m : Machine). IsPlayed loop.operator m options.workers (schedule_of options.seed options.workers options.turns) trace after) machine_is
-        (subst (λ (o : Operator). IsPlayed o (begun_machine o.rooms (slice_get values)) options.workers (schedule_of options.seed options.workers options.turns) trace after) same played);
+        subst (λ (m : Machine). IsPlayed loop.operator m options.workers (scheduled_turns options.seed options.workers options.turns) trace after) machine_is
+        (subst (λ (o : Operator). IsPlayed o (begun_machine o.rooms (slice_get values)) options.workers (scheduled_turns options.seed options.workers options.turns) trace after) same played);
   }
 
   pub is_past : (op : Operator) → op ≡ loop.operator → (passed : Limit)
-      → PassesFirst op (begun_machine op.rooms (slice_get values)) options.workers (schedule_of options.seed options.workers options.turns) passed → IsRunPast options tables loop passed
+      → PassesFirst op (begun_machine op.rooms (slice_get values)) options.workers (scheduled_turns options.seed options.workers options.turns) passed → IsRunPast options tables loop passed
   is_past op same passed first =
-      let moved : PassesFirst loop.operator (loop_machine loop tables) options.workers (schedule_of options.seed options.workers options.turns) passed =
-      subst (λ (m : Machine). PassesFirst loop.operator m options.workers (schedule_of options.seed options.workers options.turns) passed) machine_is
-      (subst (λ (o : Operator). PassesFirst o (begun_machine o.rooms (slice_get values)) options.workers (schedule_of options.seed options.workers options.turns) passed) same first) in
+      let moved : PassesFirst loop.operator (loop_machine loop tables) options.workers (scheduled_turns options.seed options.workers options.turns) passed =
+      subst (λ (m : Machine). PassesFirst loop.operator m options.workers (scheduled_turns options.seed options.workers options.turns) passed) machine_is
+      (subst (λ (o : Operator). PassesFirst o (begun_machine o.rooms (slice_get values)) options.workers (scheduled_turns options.seed options.workers options.turns) passed) same first) in
       record { turns = moved.0; passes = moved.1 }
 
 -- what is known of an answer that is passed on

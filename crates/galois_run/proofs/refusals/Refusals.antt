@@ -19,7 +19,7 @@ use Rattle.speculation.specs.Limits.{Limit}
 use Rattle.speculation.specs.Limits as limits
 use Rattle.cond_syntax.specs.TableTexts.{all_kinds}
 use Rattle.galois_run.specs.declared.options.RunOptions.{RunOptions}
-use Rattle.galois_run.specs.RunFaults.{fault_of_limit, status_of_fault, FaultsWhere, Answers}
+use Rattle.galois_run.specs.RunFaults.{fault_of_limit, status_of_fault, FaultsWhere, FaultAnswers}
 use Rattle.galois_run.specs.RunTurns.{ComesWhere, PassesLimit, status_of_limit, IsCaused, IsAnswer, Completes, writes}
 use Rattle.galois_run.proofs.meanings.ClusterLaws.{cluster_laws}
 use Rattle.galois_run.proofs.meanings.FlowLaws.{flow_laws}
@@ -55,7 +55,7 @@ not_write_fault : (limit : Limit) → statuses.WriteFault ≢ status_of_limit li
 not_write_fault limits.Spent e = cc
 not_write_fault limits.Kept e = cc
 
-report_caused : (command : Command) (options : RunOptions) (inputs : Inputs) (text : Vec ℕ Global) → AreWithinLength inputs → Answers (meaning_by command options) inputs (Ok text) → IsCaused (meaning_by command options) inputs statuses.Ok
+report_caused : (command : Command) (options : RunOptions) (inputs : Inputs) (text : Vec ℕ Global) → AreWithinLength inputs → FaultAnswers (meaning_by command options) inputs (Ok text) → IsCaused (meaning_by command options) inputs statuses.Ok
 report_caused command options inputs text within answers = record {
   too_large = λ what. never _ _ (λ e. cc) (not_too_large (meaning_by command options) inputs what within (no_fault _ text (answers.too_large what)));
   bad_table = λ why. never _ _ (λ e. cc) (λ m. no_fault _ text (answers.bad_table why) m.1);
@@ -69,7 +69,7 @@ at_inputs None read P same h = tt
 at_inputs (Some inputs) read P same h = subst P same h
 
 pub report_by_held : (command : Command) (options : RunOptions) (held : Option Inputs) (read : Inputs) (text : Vec ℕ Global) → IfSome held (λ inputs. read ≡ inputs) → AreWithinLength read
-    → Answers (meaning_by command options) read (Ok text) → IfSome held (λ inputs. IsCaused (meaning_by command options) inputs statuses.Ok)
+    → FaultAnswers (meaning_by command options) read (Ok text) → IfSome held (λ inputs. IsCaused (meaning_by command options) inputs statuses.Ok)
 report_by_held command options held read text same within answers = at_inputs held read _ same (report_caused command options read text within answers)
 
 -- ---- where none is made, there is a cause for the refusal
@@ -133,7 +133,7 @@ refusal_past : (meaning : CommandMeaning) (inputs : Inputs) (told : RunFault) (r
 refusal_past meaning inputs told result limits.Spent is within exact = comes told Spent result is (λ m. m.1) (λ m. (within, m)) exact
 refusal_past meaning inputs told result limits.Kept is within exact = comes told Kept result is (λ m. m.1) (λ m. (within, m)) exact
 
-refusal_caused : (command : Command) (options : RunOptions) (inputs : Inputs) (told : RunFault) (result : Result (Vec ℕ Global) RunFault) → result ≡ Err told → AreWithinLength inputs → Answers (meaning_by command options) inputs result → IsCaused (meaning_by command options) inputs (status_of_fault told)
+refusal_caused : (command : Command) (options : RunOptions) (inputs : Inputs) (told : RunFault) (result : Result (Vec ℕ Global) RunFault) → result ≡ Err told → AreWithinLength inputs → FaultAnswers (meaning_by command options) inputs result → IsCaused (meaning_by command options) inputs (status_of_fault told)
 refusal_caused command options inputs told result is within answers = record {
   too_large = λ what. comes told (TooLarge what) result is (past_limit (meaning_by command options) inputs what within) (λ l. inr (within, l)) (answers.too_large what);
   bad_table = λ why. comes told (BadTable why) result is (λ m. m.1) (λ m. (within, m)) (answers.bad_table why);
@@ -142,7 +142,7 @@ refusal_caused command options inputs told result is within answers = record {
 }
 
 pub refusal_by_held : (command : Command) (options : RunOptions) (held : Option Inputs) (read : Inputs) (told : RunFault) → IfSome held (λ inputs. read ≡ inputs) → AreWithinLength read
-    → Answers (meaning_by command options) read (Err told) → IfSome held (λ inputs. IsCaused (meaning_by command options) inputs (status_of_fault told))
+    → FaultAnswers (meaning_by command options) read (Err told) → IfSome held (λ inputs. IsCaused (meaning_by command options) inputs (status_of_fault told))
 refusal_by_held command options held read told same within answers = at_inputs held read _ same (refusal_caused command options read told (Err told) refl within answers)
 
 -- ---- nor is there one where it is written
@@ -205,7 +205,7 @@ run_on_told Classify options inputs limit p = p
 run_on_told Help options inputs limit p = p
 run_on_told Version options inputs limit p = p
 
-pub fault_told : (command : Command) (options : RunOptions) (inputs : Inputs) (fault : RunFault) → Answers (meaning_by command options) inputs (Err fault) → IsAnswer (meaning_by command options) (status_of_fault fault)
+pub fault_told : (command : Command) (options : RunOptions) (inputs : Inputs) (fault : RunFault) → FaultAnswers (meaning_by command options) inputs (Err fault) → IsAnswer (meaning_by command options) (status_of_fault fault)
 fault_told command options inputs (BadTable why) answers = fault_of_conditions command options inputs why ((answers.bad_table why).only refl)
 fault_told command options inputs (BadInput line) answers = line_told command options inputs line ((answers.malformed line).only refl)
 fault_told command options inputs (TooLarge what) answers = inr (limit_told command options inputs what ((answers.too_large what).only refl))

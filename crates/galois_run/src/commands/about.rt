@@ -2,7 +2,7 @@
 
 ghost use Rattle.std.specs.Prelude.{◌≡◌, ◌++◌, ◌∷◌, [], IfOk, OnOk, codes};
 ghost use Rattle.galois_run.specs.Inputs.{Inputs};
-ghost use Rattle.galois_run.specs.RunFaults.{Answers};
+ghost use Rattle.galois_run.specs.RunFaults.{FaultAnswers};
 ghost use Rattle.galois_run.specs.commands.About.{help_text, version_text, told_meaning};
 
 use crate::run_faults::RunFault;
@@ -67,20 +67,20 @@ const VERSION: &str = "galois 0.1\n";
 
 /// The text of `--help`.
 pub fn report_help(alloc: Global) -> Result<Vec<u8>, RunFault>
-    ensures { (inputs : Inputs) → Answers (told_meaning help_text) inputs result }
+    ensures { (inputs : Inputs) → FaultAnswers (told_meaning help_text) inputs result }
 {
     text_report(alloc, HELP)
 }
 
 /// The text of `--version`.
 pub fn report_version(alloc: Global) -> Result<Vec<u8>, RunFault>
-    ensures { (inputs : Inputs) → Answers (told_meaning version_text) inputs result }
+    ensures { (inputs : Inputs) → FaultAnswers (told_meaning version_text) inputs result }
 {
     text_report(alloc, VERSION)
 }
 
 fn text_report(alloc: Global, text: &str) -> Result<Vec<u8>, RunFault>
-    ensures { (inputs : Inputs) → Answers (told_meaning text.now) inputs result }
+    ensures { (inputs : Inputs) → FaultAnswers (told_meaning text.now) inputs result }
 {
     match Vec::from_slice(alloc, text.as_bytes()) {
         Ok(report) => Ok(report),

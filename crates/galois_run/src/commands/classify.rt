@@ -9,7 +9,7 @@ ghost use Rattle.galois_run.specs.Inputs.{inputs_in};
 ghost use Rattle.cond_syntax.specs.TableTexts.{all_kinds};
 ghost use Rattle.galois_run.specs.commands.Classify.{class_text, pair_line, class_lines, rows_text, IsClassText, IsClassReport, IsFaultyTable, classify_meaning};
 ghost use Rattle.line_writer.specs.Lines.{line};
-ghost use Rattle.galois_run.specs.RunFaults.{fault_of_text, fault_of_limit, FaultsWhere, Answers};
+ghost use Rattle.galois_run.specs.RunFaults.{fault_of_text, fault_of_limit, FaultsWhere, FaultAnswers};
 ghost use Rattle.galois_run.specs.declared.run_faults.RunFault.TheVariants as faults;
 ghost use Rattle.galois_run.specs.declared.status.TableFault.{TableFault};
 
@@ -147,7 +147,7 @@ fn input_fault(refused: TextFault) -> RunFault
 
 /// The report of `classify` on the inputs.
 pub fn report_classes(alloc: Global, inputs: &InputFiles) -> Result<Vec<u8>, RunFault>
-    ensures { Answers classify_meaning (inputs_in inputs.now) result }
+    ensures { FaultAnswers classify_meaning (inputs_in inputs.now) result }
 {
     classify_bytes(alloc, inputs.main())
 }

@@ -9,7 +9,7 @@ ghost use Rattle.speculation.specs.Limits.{Limit};
 ghost use Rattle.galois_run.specs.Inputs.{inputs_in};
 ghost use Rattle.galois_run.specs.LoopCommands.{AreAccepted, UnderTables, IsReportOn, IsPastOn};
 ghost use Rattle.galois_run.specs.LoopRuns.{IsReportOf, IsRunPast};
-ghost use Rattle.galois_run.specs.RunFaults.{Answers, FaultsWhere, fault_of_limit};
+ghost use Rattle.galois_run.specs.RunFaults.{FaultAnswers, FaultsWhere, fault_of_limit};
 ghost use Rattle.galois_run.specs.RunTables.{ServesGates};
 ghost use Rattle.galois_run.specs.commands.Cluster.{AreBadConditions, AreOfFile, cluster_command, cluster_loop, cluster_meaning, tables_in};
 ghost use Rattle.galois_run.specs.declared.status.TableFault.{TableFault};
@@ -31,7 +31,7 @@ pub fn report_cluster(
     inputs: &InputFiles,
 ) -> Result<Vec<u8>, RunFault>
     requires { 1 ≤ options.workers }
-    ensures { Answers (cluster_meaning options) (inputs_in inputs.now) result }
+    ensures { FaultAnswers (cluster_meaning options) (inputs_in inputs.now) result }
 {
     cluster_text(alloc, options, inputs.conditions(), inputs.main())
 }

@@ -10,7 +10,7 @@ ghost use Rattle.speculation.specs.Limits.{Limit};
 ghost use Rattle.galois_run.specs.Inputs.{inputs_in};
 ghost use Rattle.galois_run.specs.LoopCommands.{AreAccepted, UnderTables, IsReportOn, IsPastOn};
 ghost use Rattle.galois_run.specs.LoopRuns.{IsReportOf, IsRunPast};
-ghost use Rattle.galois_run.specs.RunFaults.{Answers, FaultsWhere, fault_of_limit};
+ghost use Rattle.galois_run.specs.RunFaults.{FaultAnswers, FaultsWhere, fault_of_limit};
 ghost use Rattle.galois_run.specs.RunTables.{ServesGates, IsRunTable, IsBadTable, TellsTable};
 ghost use Rattle.galois_run.specs.commands.Flow.{flow_command, flow_meaning, network_loop, shard_tables};
 ghost use Rattle.kind_tables.specs.TablesOfKinds.{tables_of};
@@ -35,7 +35,7 @@ pub fn report_flow(
     inputs: &InputFiles,
 ) -> Result<Vec<u8>, RunFault>
     requires { 1 ≤ options.workers }
-    ensures { Answers (flow_meaning options) (inputs_in inputs.now) result }
+    ensures { FaultAnswers (flow_meaning options) (inputs_in inputs.now) result }
 {
     flow_text(alloc, options, inputs.conditions(), inputs.main())
 }

@@ -14,7 +14,7 @@ use Rattle.gx_base.specs.Replays as replays
 use Rattle.gate_core.specs.declared.refusals.Told.{Told}
 use Rattle.gate_core.specs.Entries.{made_of, mades_of}
 use Rattle.gate_core.specs.Replays.{LegalEntries, start_of, AllSawRight, LeadTo}
-use Rattle.gate_core.specs.Views.{GateView, IsLawfulGate, rows_of, live_start, asked_entry, in_way, admit}
+use Rattle.gate_core.specs.Views.{GateView, IsLawfulGate, gate_rows, live_start, asked_entry, in_way, admit}
 use Rattle.gate_core.specs.CallAnswers.{AllRoomed, IsGate, IsAdmitted, TellsOf}
 use Rattle.gate_core.proofs.lists.EntryLists.{each_append, each_same}
 use Rattle.gate_core.proofs.replays.EntryReplays.{legal_join, calls_append, mades_of-append}
@@ -51,24 +51,24 @@ record LeadsFrom (rows : Rows) (from : State) (live : List Entry) (asked : Entry
   legal : LegalEntries from (live ++ asked ∷ []) state
   saw : AllSawRight rows from (live ++ asked ∷ [])
 
-leads : (g : GateView) (worker iter : ℕ) (item : Item) (call : Call) → IsLawfulGate g → IsCall call → LeadTo (rows_of g) g.live (asked_entry worker iter item call g.state) (next_state g.state call)
+leads : (g : GateView) (worker iter : ℕ) (item : Item) (call : Call) → IsLawfulGate g → IsCall call → LeadTo (gate_rows g) g.live (asked_entry worker iter item call g.state) (next_state g.state call)
 leads g worker iter item call h c =
     let e : Entry = asked_entry worker iter item call g.state in
     let same : live_start g ≡ start_of (next_state g.state call) (g.live ++ e ∷ []) = sym (asked_start g worker iter item call h c) in
-    let at : State → Type 0 = λ u. LeadsFrom (rows_of g) u g.live e (next_state g.state call) in
-    let all : LeadsFrom (rows_of g) (live_start g) g.live e (next_state g.state call) = record {
+    let at : State → Type 0 = λ u. LeadsFrom (gate_rows g) u g.live e (next_state g.state call) in
+    let all : LeadsFrom (gate_rows g) (live_start g) g.live e (next_state g.state call) = record {
       stands = (live_stands g h).is_state;
       legal = legal_join (live_start g) g.state (next_state g.state call) g.live (e ∷ []) h.live_legal (refl, refl);
-      saw = saw_append (rows_of g) (live_start g) g.state g.live e h.live_legal h.saw refl;
+      saw = saw_append (gate_rows g) (live_start g) g.state g.live e h.live_legal h.saw refl;
     } in
-    let there : LeadsFrom (rows_of g) (start_of (next_state g.state call) (g.live ++ e ∷ [])) g.live e (next_state g.state call) = subst at same all in
+    let there : LeadsFrom (gate_rows g) (start_of (next_state g.state call) (g.live ++ e ∷ [])) g.live e (next_state g.state call) = subst at same all in
     record { stands = there.stands; calls = calls_append g.live (e ∷ []) h.live_calls (c, tt); legal = there.legal; saw = there.saw }
 
 -- the live entries with the asked one lead to the state after the call
-pub lead_to : (g : GateView) (worker iter : ℕ) (item : Item) (call : Call) (e : Entry) (s : State) (live : List Entry) → IsLawfulGate g → IsCall call → Asks g worker iter item call e s live → LeadTo (rows_of g) live e s
+pub lead_to : (g : GateView) (worker iter : ℕ) (item : Item) (call : Call) (e : Entry) (s : State) (live : List Entry) → IsLawfulGate g → IsCall call → Asks g worker iter item call e s live → LeadTo (gate_rows g) live e s
 lead_to g worker iter item call e s live h c a =
-    let joined : LeadTo (rows_of g) g.live (asked_entry worker iter item call g.state) (next_state g.state call) = leads g worker iter item call h c in
-    subst (λ x. LeadTo (rows_of g) x e s) (sym a.entries) (subst (λ x. LeadTo (rows_of g) g.live x s) (sym a.entry) (subst (λ x. LeadTo (rows_of g) g.live (asked_entry worker iter item call g.state) x) (sym a.next) joined))
+    let joined : LeadTo (gate_rows g) g.live (asked_entry worker iter item call g.state) (next_state g.state call) = leads g worker iter item call h c in
+    subst (λ x. LeadTo (gate_rows g) x e s) (sym a.entries) (subst (λ x. LeadTo (gate_rows g) g.live x s) (sym a.entry) (subst (λ x. LeadTo (gate_rows g) g.live (asked_entry worker iter item call g.state) x) (sym a.next) joined))
 
 -- and can be undone
 pub rooms_asked : (roomed roomed' : Made → Bool) (es es' : List Entry) (e : Entry) → AllRoomed roomed es → ((made : Made) → IsTrue (roomed made) → IsTrue (roomed' made)) → IsTrue (roomed' (made_of e)) → es' ≡ es
@@ -79,10 +79,10 @@ rooms_asked roomed roomed' es es' e h k r l =
 
 -- what was told of the entry and the state is what the gate's contract says
 pub told_of : (g : GateView) (worker iter : ℕ) (item : Item) (call : Call) (e : Entry) (s : State) (live : List Entry) (o : Option Told) → IsLawfulGate g → IsCall call → Asks g worker iter item call e s live
-    → TellsOf (rows_of g) (start_of s (live ++ e ∷ [])) live e o → TellsOf (rows_of g) (live_start g) g.live (asked_entry worker iter item call g.state) o
+    → TellsOf (gate_rows g) (start_of s (live ++ e ∷ [])) live e o → TellsOf (gate_rows g) (live_start g) g.live (asked_entry worker iter item call g.state) o
 told_of g worker iter item call e s live o h c a t =
-    let from : TellsOf (rows_of g) (live_start g) live e o = subst (λ u. TellsOf (rows_of g) u live e o) (start_seen g worker iter item call e s live h c a) t in
-    subst (λ x. TellsOf (rows_of g) (live_start g) g.live x o) a.entry (subst (λ x. TellsOf (rows_of g) (live_start g) x e o) a.entries from)
+    let from : TellsOf (gate_rows g) (live_start g) live e o = subst (λ u. TellsOf (gate_rows g) u live e o) (start_seen g worker iter item call e s live h c a) t in
+    subst (λ x. TellsOf (gate_rows g) (live_start g) g.live x o) a.entry (subst (λ x. TellsOf (gate_rows g) (live_start g) x e o) a.entries from)
 
 -- a call that is taken back leaves the state of before
 pub taken_back : (g : GateView) (worker iter : ℕ) (item : Item) (call : Call) (e : Entry) (s s' s'' : State) (live : List Entry) → IsLawfulGate g → IsCall call → Asks g worker iter item call e s live

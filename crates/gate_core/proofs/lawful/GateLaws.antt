@@ -4,7 +4,7 @@ use Rattle.std.proofs.Common.{sym, ◌∙◌, ap, subst, arith}
 use Rattle.gx_base.specs.declared.acts.Entry.{Entry}
 use Rattle.gate_core.specs.Entries.{mades_of, same_iteration, is_of, entries_of, others_than, entries_by, has_entry, last_of, without_last, Each, mark_after, mark_of, NumbersRise}
 use Rattle.gate_core.specs.Replays.{after, LegalEntries}
-use Rattle.gate_core.specs.Views.{GateView, rows_of, live_start, start, IsLawfulGate, undo_entry, undo_last, undo_times}
+use Rattle.gate_core.specs.Views.{GateView, gate_rows, live_start, start, IsLawfulGate, undo_entry, undo_last, undo_times}
 use Rattle.gate_core.proofs.lists.EntryLists.{neither, both_true, both_ways}
 use Rattle.gate_core.proofs.replays.Leaving.{Parted, parted}
 use Rattle.gate_core.proofs.lawful.KeptLawful.{Kept, undo_keeps, of_whole, live_of, live_stands}
@@ -20,8 +20,8 @@ replayed g h = legal_join (start g) (live_start g) g.state g.done g.live h.done_
 pub released_first : (g : GateView) (worker iter : ℕ) → IsLawfulGate g → LegalEntries (live_start g) (entries_of worker iter g.live ++ others_than worker iter g.live) g.state
 released_first g worker iter h =
     let ms : List Entry = entries_of worker iter g.live in
-    let p : Parted g.kind (rows_of g) h.valid (live_start g) g.state ms (others_than worker iter g.live) =
-    parted g.kind (rows_of g) h.valid (is_of worker iter) (of_whole worker iter) (live_start g) g.state g.live (live_stands g h) h.live_calls (live_of g h) in
+    let p : Parted g.kind (gate_rows g) h.valid (live_start g) g.state ms (others_than worker iter g.live) =
+    parted g.kind (gate_rows g) h.valid (is_of worker iter) (of_whole worker iter) (live_start g) g.state g.live (live_stands g h) h.live_calls (live_of g h) in
     legal_join (live_start g) (after (live_start g) ms) g.state ms (others_than worker iter g.live) p.first p.rest.legal
 
 by_whole_at : (worker : ℕ) (e m : Entry) (b : Bool) → same_iteration e m ≡ b → (e.worker == worker) ≡ false → (m.worker == worker) ≡ true → b ≡ false
@@ -37,8 +37,8 @@ by_whole worker e m n k = by_whole_at worker e m (same_iteration e m) refl n k
 pub alone : (g : GateView) (worker : ℕ) → IsLawfulGate g → LegalEntries (start g) (g.done ++ entries_by worker g.live) (after (live_start g) (entries_by worker g.live))
 alone g worker h =
     let ms : List Entry = entries_by worker g.live in
-    let p : Parted g.kind (rows_of g) h.valid (live_start g) g.state ms (filter (λ e. not (e.worker == worker)) g.live) =
-    parted g.kind (rows_of g) h.valid (λ e. e.worker == worker) (by_whole worker) (live_start g) g.state g.live (live_stands g h) h.live_calls (live_of g h) in
+    let p : Parted g.kind (gate_rows g) h.valid (live_start g) g.state ms (filter (λ e. not (e.worker == worker)) g.live) =
+    parted g.kind (gate_rows g) h.valid (λ e. e.worker == worker) (by_whole worker) (live_start g) g.state g.live (live_stands g h) h.live_calls (live_of g h) in
     legal_join (start g) (live_start g) (after (live_start g) ms) g.done ms h.done_legal p.first
 
 pub replays_alone : (g : GateView) (worker : ℕ) → IsLawfulGate g → LegalEntries (start g) (g.done ++ entries_by worker g.live) (after (start g) (g.done ++ entries_by worker g.live))

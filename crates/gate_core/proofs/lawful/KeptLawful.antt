@@ -11,7 +11,7 @@ use Rattle.gx_base.proofs.CallerLemmas.{after-Legal, start_of-Legal}
 use Rattle.gx_base.specs.declared.acts.Entry.{Entry}
 use Rattle.gate_core.specs.Entries.{mades_of, same_iteration, is_of, entries_of, others_than, has_entry, last_of, without_last, done_under, Each, mark_after, mark_of, NumbersRise}
 use Rattle.gate_core.specs.Replays.{after, LegalEntries, start_of, AllCalls, pair_ok, PairsFit, AllSawRight, further, first_failing, Stands}
-use Rattle.gate_core.specs.Views.{GateView, rows_of, live_start, start, IsLawfulGate, asked_entry, in_way, admit, undo_entry, undo_last, release}
+use Rattle.gate_core.specs.Views.{GateView, gate_rows, live_start, start, IsLawfulGate, asked_entry, in_way, admit, undo_entry, undo_last, release}
 use Rattle.gate_core.proofs.lists.EntryLists.{of_same, each_append, each_filter, each_without}
 use Rattle.gate_core.proofs.replays.EntryReplays.{mades_of-under, legal_join, calls_append, calls_filter, calls_without}
 use Rattle.gate_core.proofs.replays.Swapping.{stands_next}
@@ -57,7 +57,7 @@ mark_released n mark worker iter (x ∷ es) = mark_by n mark x (entries_of worke
 
 -- lawful gates
 
-pub live_of : (g : GateView) → IsLawfulGate g → AreLive (rows_of g) (live_start g) g.live g.state
+pub live_of : (g : GateView) → IsLawfulGate g → AreLive (gate_rows g) (live_start g) g.live g.state
 live_of g h = record { legal = h.live_legal; pairs = h.pairs; saw = h.saw }
 
 pub live_stands : (g : GateView) → IsLawfulGate g → Stands g.kind (live_start g)
@@ -67,7 +67,7 @@ pub state_stands : (g : GateView) → IsLawfulGate g → Stands g.kind g.state
 state_stands g h = subst (Stands g.kind) (after-Legal (live_start g) g.state (mades_of g.live) h.live_legal) (stands_after g.kind (live_start g) g.live (live_stands g h) h.live_calls)
 
 -- what replays from the same start is lawful
-pub kept : (g : GateView) (h : IsLawfulGate g) (m t : State) (done live : List Entry) (mark : ℕ) → AllCalls done → AllCalls live → LegalEntries (start g) done m → AreLive (rows_of g) m live t
+pub kept : (g : GateView) (h : IsLawfulGate g) (m t : State) (done live : List Entry) (mark : ℕ) → AllCalls done → AllCalls live → LegalEntries (start g) done m → AreLive (gate_rows g) m live t
     → NumbersRise 0 done → mark ≡ mark_of 0 done → Each (λ e. e.done ≡ None) live → Kept g (record g { state = t; done = done; live = live; mark = mark })
 kept g h m t done live mark cd cl ld a n k u =
     let s : State = start g in
@@ -83,8 +83,8 @@ kept g h m t done live mark cd cl ld a n k u =
         live_calls = cl;
         done_legal = subst (λ v. LegalEntries v done (start_of t live)) (sym whole) (subst (λ v. LegalEntries s done v) (sym mid) ld);
         live_legal = subst (λ v. LegalEntries v live t) (sym mid) a.legal;
-        pairs = subst (λ v. PairsFit (rows_of g) v live) (sym mid) a.pairs;
-        saw = subst (λ v. AllSawRight (rows_of g) v live) (sym mid) a.saw;
+        pairs = subst (λ v. PairsFit (gate_rows g) v live) (sym mid) a.pairs;
+        saw = subst (λ v. AllSawRight (gate_rows g) v live) (sym mid) a.saw;
         numbers = n;
         mark = k;
         uncommitted = u;
@@ -112,12 +112,12 @@ pub admit_keeps : (g : GateView) (worker iter : ℕ) (item : Item) (call : Call)
 admit_keeps g worker iter item call h c n =
     let e : Entry = asked_entry worker iter item call g.state in
     kept g h (live_start g) (next_state g.state call) g.done (g.live ++ e ∷ []) g.mark h.done_calls (calls_append g.live (e ∷ []) h.live_calls (c, tt)) h.done_legal
-    (record { legal = legal_join (live_start g) g.state (next_state g.state call) g.live (e ∷ []) h.live_legal (refl, refl); pairs = pairs_append (rows_of g) (live_start g) g.live e h.pairs n; saw = saw_append (rows_of g) (live_start g) g.state g.live e h.live_legal h.saw refl }) h.numbers h.mark (each_append (λ x. x.done ≡ None) g.live (e ∷ []) h.uncommitted (refl, tt))
+    (record { legal = legal_join (live_start g) g.state (next_state g.state call) g.live (e ∷ []) h.live_legal (refl, refl); pairs = pairs_append (gate_rows g) (live_start g) g.live e h.pairs n; saw = saw_append (gate_rows g) (live_start g) g.state g.live e h.live_legal h.saw refl }) h.numbers h.mark (each_append (λ x. x.done ≡ None) g.live (e ∷ []) h.uncommitted (refl, tt))
 
 pub undo_entry_keeps : (g : GateView) (worker iter : ℕ) (u : Entry) → IsLawfulGate g → last_of worker iter g.live ≡ Some u → Kept g (undo_entry g worker iter (Some u))
 undo_entry_keeps g worker iter u h k =
     kept g h (live_start g) (inverse g.state u.call u.reply) g.done (without_last worker iter g.live) g.mark h.done_calls (calls_without worker iter g.live h.live_calls) h.done_legal
-    (undone g.kind (rows_of g) h.valid (live_start g) g.state worker iter u g.live (live_stands g h) h.live_calls (live_of g h) k) h.numbers h.mark (each_without (λ x. x.done ≡ None) worker iter g.live h.uncommitted)
+    (undone g.kind (gate_rows g) h.valid (live_start g) g.state worker iter u g.live (live_stands g h) h.live_calls (live_of g h) k) h.numbers h.mark (each_without (λ x. x.done ≡ None) worker iter g.live h.uncommitted)
 
 undo_keeps_by : (g : GateView) (worker iter : ℕ) (o : Option Entry) → last_of worker iter g.live ≡ o → IsLawfulGate g → Kept g (undo_entry g worker iter o)
 undo_keeps_by g worker iter None k h = record { lawful = h; same_start = refl }
@@ -135,7 +135,7 @@ release_keeps g worker iter number h below =
     let ms : List Entry = entries_of worker iter g.live in
     let os : List Entry = others_than worker iter g.live in
     let m : State = after (live_start g) ms in
-    let p : Parted g.kind (rows_of g) h.valid (live_start g) g.state ms os = parted g.kind (rows_of g) h.valid (is_of worker iter) (of_whole worker iter) (live_start g) g.state g.live (live_stands g h) h.live_calls (live_of g h) in
+    let p : Parted g.kind (gate_rows g) h.valid (live_start g) g.state ms os = parted g.kind (gate_rows g) h.valid (is_of worker iter) (of_whole worker iter) (live_start g) g.state g.live (live_stands g h) h.live_calls (live_of g h) in
     let marks : mark_of (mark_of 0 g.done) (done_under number ms) ≡ (if has_entry worker iter g.live then number + 1 else g.mark) =
     ap (λ k. mark_of k (done_under number ms)) (sym h.mark) ∙ mark_released number g.mark worker iter g.live in
     let low : mark_of 0 g.done ≤ number + 1 = let e : g.mark ≡ mark_of 0 g.done = h.mark in omega arith in

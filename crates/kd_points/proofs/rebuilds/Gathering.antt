@@ -16,7 +16,7 @@ use Rattle.kd_points.specs.declared.nodes.Node.{Node}
 use Rattle.kd_points.specs.declared.tree.Tree.{Tree}
 use Rattle.kd_points.specs.NearestPoints.{spot_at-with}
 use Rattle.kd_points.specs.Trees.{Nodes, is_point_of}
-use Rattle.kd_points.specs.TreeStates.{node_at, key_of, place, row_of_node, rows_of, tree_state, dead_nodes, count_of, IsSound, IsBlank, NoPoint}
+use Rattle.kd_points.specs.TreeStates.{node_at, key_of, place, row_of_node, tree_rows, tree_state, dead_nodes, count_of, IsSound, IsBlank, NoPoint}
 use Rattle.kd_points.specs.Rebuilding.{IsPointOf, HasPoint, Gathers, IsRebuilt}
 use Rattle.kd_points.proofs.states.Basics.{none_some, some_is, same_int, int_eq-of}
 use Rattle.kd_points.proofs.states.StateRows.{with_rows, row_found, get-rows_of, rows_of-same}
@@ -115,7 +115,7 @@ gathers_parts a b c d spots front back middle p f g h = record { none_else = fro
 
 -- a tree without nodes has no points
 pub blank_row : (tree : Tree) (id : ℤ) → IsBlank tree → row_at (tree_state tree) (0, id) ≡ None
-blank_row tree id b = ap (λ es. map.get (rows_of (node_at tree) es) (0, id)) b.entries ∙ get-rows_of (node_at tree) [] id
+blank_row tree id b = ap (λ es. map.get (tree_rows (node_at tree) es) (0, id)) b.entries ∙ get-rows_of (node_at tree) [] id
 
 pub blank_spot : (tree : Tree) (id : ℤ) → IsBlank tree → spot_at (tree_state tree) id ≡ None
 blank_spot tree id b = ap (spot_of id) (blank_row tree id b)
@@ -169,7 +169,7 @@ blank_sound tree b = record {
     owned = λ i n e l. absurd (none_some n (sym (nothing i) ∙ e));
     fits = λ i n e. absurd (none_some n (sym (nothing i) ∙ e));
   };
-  counted = b.live ∙ sym (ap (λ es. count_of (with_rows (rows_of (node_at tree) es))) b.entries ∙ map.len-empty row_cmp (List ℤ));
+  counted = b.live ∙ sym (ap (λ es. count_of (with_rows (tree_rows (node_at tree) es))) b.entries ∙ map.len-empty row_cmp (List ℤ));
 }
   where
     nothing : (i : ℕ) → node_at tree i ≡ None
@@ -204,4 +204,4 @@ rebuilt_from old blank mid new spots given b p e s g f = subst (IsRebuilt old) (
 })
 
 pub blank_state : (tree : Tree) → IsBlank tree → tree_state tree ≡ with_rows map.empty
-blank_state tree b = ap (λ es. with_rows (rows_of (node_at tree) es)) b.entries
+blank_state tree b = ap (λ es. with_rows (tree_rows (node_at tree) es)) b.entries

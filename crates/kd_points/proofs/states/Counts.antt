@@ -5,7 +5,7 @@ use Rattle.std.specs.FinMap as map
 use Rattle.gx_base.specs.States.{State, row_cmp, rows_put, row_at, with_row}
 use Rattle.gx_base.proofs.CallerLemmas.{row_cmp_total}
 use Rattle.kd_points.specs.Trees.{Nodes}
-use Rattle.kd_points.specs.TreeStates.{row_of_node, rows_of, count_of}
+use Rattle.kd_points.specs.TreeStates.{row_of_node, tree_rows, count_of}
 use Rattle.kd_points.proofs.states.Basics.{none_some}
 
 insert_by : (b : Bool) (n : ℕ) → cond b n (n + 1) ≤ n + 1
@@ -22,11 +22,11 @@ put-more m key None = let e = map.len-remove row_cmp_total m key in let h = remo
 put-more m key (Some xs) = let e = map.len-insert row_cmp_total m key xs in let h = insert_by (map.contains_key m key) (map.len m) in omega arith
 
 -- there are no more points than ids
-pub count-most : (look : Nodes) (es : List (ℤ × ℕ)) → map.len (rows_of look es) ≤ length es
+pub count-most : (look : Nodes) (es : List (ℤ × ℕ)) → map.len (tree_rows look es) ≤ length es
 count-most look [] = let e = map.len-empty row_cmp (List ℤ) in omega arith
 count-most look (e ∷ es) =
-    let h : map.len (rows_of look es) ≤ length es = count-most look es in
-    let k = put-more (rows_of look es) (0, e.0) (row_of_node e.0 (look e.1)) in
+    let h : map.len (tree_rows look es) ≤ length es = count-most look es in
+    let k = put-more (tree_rows look es) (0, e.0) (row_of_node e.0 (look e.1)) in
     omega arith
 
 -- a point more

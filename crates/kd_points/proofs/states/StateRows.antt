@@ -12,7 +12,7 @@ use Rattle.gx_base.specs.States.{State, row_cmp, rows_put, row_at, with_row}
 use Rattle.gx_base.proofs.CallerLemmas.{row_cmp_total, row_cmp-IsAntisymmetric, same_row, same_row-is, same_row-sort, row_at-with}
 use Rattle.kd_points.specs.declared.nodes.Node.{Node}
 use Rattle.kd_points.specs.Trees.{Nodes, is_point_of, IsOwner}
-use Rattle.kd_points.specs.TreeStates.{place, row_of_node, rows_of}
+use Rattle.kd_points.specs.TreeStates.{place, row_of_node, tree_rows}
 use Rattle.kd_points.proofs.states.Basics.{same_int, int_eq-of, false_of, some_is}
 
 -- points with these rows
@@ -31,33 +31,33 @@ here_by look id x key true false p o e h f = absurd (cc)
 here_by look id x key false true p o e h f = absurd (cc)
 here_by look id x key false false p o e h f = f
 
-pub get-rows_of : (look : Nodes) (es : List (ℤ × ℕ)) (id : ℤ) → map.get (rows_of look es) (0, id) ≡ row_found look id (lookup (int_eq id) es)
+pub get-rows_of : (look : Nodes) (es : List (ℤ × ℕ)) (id : ℤ) → map.get (tree_rows look es) (0, id) ≡ row_found look id (lookup (int_eq id) es)
 get-rows_of look [] id = map.get-empty row_cmp (0, id)
 get-rows_of look (e ∷ es) id =
-    row_at-with (with_rows (rows_of look es)) (0, e.0) (row_of_node e.0 (look e.1)) (0, id)
-    ∙ here_by look id e.0 e.1 (same_row (0, id) (0, e.0)) (int_eq id e.0) (map.get (rows_of look es) (0, id)) (lookup (int_eq id) es) (same_row-sort 0 id e.0) (same_int id e.0) (get-rows_of look es id)
+    row_at-with (with_rows (tree_rows look es)) (0, e.0) (row_of_node e.0 (look e.1)) (0, id)
+    ∙ here_by look id e.0 e.1 (same_row (0, id) (0, e.0)) (int_eq id e.0) (map.get (tree_rows look es) (0, id)) (lookup (int_eq id) es) (same_row-sort 0 id e.0) (same_int id e.0) (get-rows_of look es id)
 
 -- rows of two sorts differ
 apart_sorts : (i : ℕ) (k x : ℤ) → (i ≡ 0 → ⊥) → same_row (i, k) (0, x) ≡ false
 apart_sorts i k x n = false_of (same_row (i, k) (0, x)) (λ t. n (ap (λ (q : ℕ × ℤ). q.0) (same_row-is (i, k) (0, x) t)))
 
-get-rows_of-other : (look : Nodes) (es : List (ℤ × ℕ)) (i : ℕ) (k : ℤ) → (i ≡ 0 → ⊥) → map.get (rows_of look es) (i, k) ≡ None
+get-rows_of-other : (look : Nodes) (es : List (ℤ × ℕ)) (i : ℕ) (k : ℤ) → (i ≡ 0 → ⊥) → map.get (tree_rows look es) (i, k) ≡ None
 get-rows_of-other look [] i k n = map.get-empty row_cmp (i, k)
 get-rows_of-other look (e ∷ es) i k n =
-    row_at-with (with_rows (rows_of look es)) (0, e.0) (row_of_node e.0 (look e.1)) (i, k)
-    ∙ ap (λ b. cond b (row_of_node e.0 (look e.1)) (map.get (rows_of look es) (i, k))) (apart_sorts i k e.0 n) ∙ get-rows_of-other look es i k n
+    row_at-with (with_rows (tree_rows look es)) (0, e.0) (row_of_node e.0 (look e.1)) (i, k)
+    ∙ ap (λ b. cond b (row_of_node e.0 (look e.1)) (map.get (tree_rows look es) (i, k))) (apart_sorts i k e.0 n) ∙ get-rows_of-other look es i k n
 
 -- rows with these look-ups
 pub by_rows : (look : Nodes) (es : List (ℤ × ℕ)) (other : map.FinMap row_cmp (List ℤ)) → ((id : ℤ) → map.get other (0, id) ≡ row_found look id (lookup (int_eq id) es))
-    → ((i : ℕ) (k : ℤ) → (i ≡ 0 → ⊥) → map.get other (i, k) ≡ None) → rows_of look es ≡ other
+    → ((i : ℕ) (k : ℤ) → (i ≡ 0 → ⊥) → map.get other (i, k) ≡ None) → tree_rows look es ≡ other
 by_rows look es other here there = map.same_map row_cmp_total row_cmp-IsAntisymmetric _ _ (λ q. at q.0 q.1)
   where
-    at : (i : ℕ) (k : ℤ) → map.get (rows_of look es) (i, k) ≡ map.get other (i, k)
+    at : (i : ℕ) (k : ℤ) → map.get (tree_rows look es) (i, k) ≡ map.get other (i, k)
     at zero k = get-rows_of look es k ∙ sym (here k)
     at (suc i) k = get-rows_of-other look es (suc i) k (λ e. absurd (cc)) ∙ sym (there (suc i) k (λ e. absurd (cc)))
 
-pub rows_of-same : (look next : Nodes) (es fs : List (ℤ × ℕ)) → ((id : ℤ) → row_found next id (lookup (int_eq id) fs) ≡ row_found look id (lookup (int_eq id) es)) → rows_of next fs ≡ rows_of look es
-rows_of-same look next es fs h = by_rows next fs (rows_of look es) (λ id. get-rows_of look es id ∙ sym (h id)) (λ i k n. get-rows_of-other look es i k n)
+pub rows_of-same : (look next : Nodes) (es fs : List (ℤ × ℕ)) → ((id : ℤ) → row_found next id (lookup (int_eq id) fs) ≡ row_found look id (lookup (int_eq id) es)) → tree_rows next fs ≡ tree_rows look es
+rows_of-same look next es fs h = by_rows next fs (tree_rows look es) (λ id. get-rows_of look es id ∙ sym (h id)) (λ i k n. get-rows_of-other look es i k n)
 
 -- a change of what stands for one id
 pub record Settles (look next : Nodes) (numbers after : ℤ → Option ℕ) (id : ℤ) (row : Option (List ℤ)) : Type 0 where
@@ -75,11 +75,11 @@ settled_by look next numbers after id row s q true e = ap (λ y. row_found next 
 settled_by look next numbers after id row s q false e = ap (row_found next q) (s.numbers_stay q e) ∙ found_stays look next q (numbers q) (λ key. s.nodes_stay q key e)
 
 pub rows_of-with : (look next : Nodes) (es fs : List (ℤ × ℕ)) (id : ℤ) (row : Option (List ℤ)) → Settles look next (λ q. lookup (int_eq q) es) (λ q. lookup (int_eq q) fs) id row
-    → rows_of next fs ≡ rows_put (rows_of look es) (0, id) row
-rows_of-with look next es fs id row s = by_rows next fs (rows_put (rows_of look es) (0, id) row)
-    (λ q. row_at-with (with_rows (rows_of look es)) (0, id) row (0, q) ∙ ap (λ b. cond b row (map.get (rows_of look es) (0, q))) (same_row-sort 0 q id)
+    → tree_rows next fs ≡ rows_put (tree_rows look es) (0, id) row
+rows_of-with look next es fs id row s = by_rows next fs (rows_put (tree_rows look es) (0, id) row)
+    (λ q. row_at-with (with_rows (tree_rows look es)) (0, id) row (0, q) ∙ ap (λ b. cond b row (map.get (tree_rows look es) (0, q))) (same_row-sort 0 q id)
     ∙ ap (cond (int_eq q id) row) (get-rows_of look es q) ∙ sym (settled_by look next _ _ id row s q (int_eq q id) refl))
-    (λ i q n. row_at-with (with_rows (rows_of look es)) (0, id) row (i, q) ∙ ap (λ b. cond b row (map.get (rows_of look es) (i, q))) (apart_sorts i q id n) ∙ get-rows_of-other look es i q n)
+    (λ i q n. row_at-with (with_rows (tree_rows look es)) (0, id) row (i, q) ∙ ap (λ b. cond b row (map.get (tree_rows look es) (i, q))) (apart_sorts i q id n) ∙ get-rows_of-other look es i q n)
 
 -- the row of a node
 pub row_of_live : (id : ℤ) (n : Node) → n.live ≡ true → n.spot.id ≡ id → row_of_node id (Some n) ≡ Some (place n.spot)
@@ -100,23 +100,23 @@ pub row_of_alike : (id : ℤ) (n m : Node) → m.live ≡ n.live → m.spot ≡ 
 row_of_alike id n m l s = λ i. if l i && int_eq (s i).id id then Some (place (s i)) else None
 
 -- what a look-up by the number tells of the row
-pub no_key : (look : Nodes) (es : List (ℤ × ℕ)) (id : ℤ) (found : Option ℕ) → found ≡ lookup (int_eq id) es → found ≡ None → row_at (with_rows (rows_of look es)) (0, id) ≡ None
+pub no_key : (look : Nodes) (es : List (ℤ × ℕ)) (id : ℤ) (found : Option ℕ) → found ≡ lookup (int_eq id) es → found ≡ None → row_at (with_rows (tree_rows look es)) (0, id) ≡ None
 no_key look es id found f e = get-rows_of look es id ∙ ap (row_found look id) (sym f ∙ e)
 
 pub no_node : (look : Nodes) (es : List (ℤ × ℕ)) (id : ℤ) (found : Option ℕ) (key : ℕ) (node : Option Node) → found ≡ lookup (int_eq id) es → found ≡ Some key → node ≡ look key → node ≡ None
-    → row_at (with_rows (rows_of look es)) (0, id) ≡ None
+    → row_at (with_rows (tree_rows look es)) (0, id) ≡ None
 no_node look es id found key held f e g h = get-rows_of look es id ∙ ap (row_found look id) (sym f ∙ e) ∙ ap (row_of_node id) (sym g ∙ h)
 
 pub no_point : (look : Nodes) (es : List (ℤ × ℕ)) (id : ℤ) (found : Option ℕ) (key : ℕ) (node : Option Node) (n : Node) → found ≡ lookup (int_eq id) es → found ≡ Some key → node ≡ look key → node ≡ Some n
-    → is_point_of id n ≡ false → row_at (with_rows (rows_of look es)) (0, id) ≡ None
+    → is_point_of id n ≡ false → row_at (with_rows (tree_rows look es)) (0, id) ≡ None
 no_point look es id found key held n f e g h p =
     get-rows_of look es id ∙ ap (row_found look id) (sym f ∙ e) ∙ ap (row_of_node id) (sym g ∙ h) ∙ ap (λ b. if b then Some (place n.spot) else None) p
 
 -- the row of an owner
-pub owner_row : (look : Nodes) (es : List (ℤ × ℕ)) (id : ℤ) (key : ℕ) (o : IsOwner look (λ q. lookup (int_eq q) es) id key) → row_at (with_rows (rows_of look es)) (0, id) ≡ Some (place o.node.spot)
+pub owner_row : (look : Nodes) (es : List (ℤ × ℕ)) (id : ℤ) (key : ℕ) (o : IsOwner look (λ q. lookup (int_eq q) es) id key) → row_at (with_rows (tree_rows look es)) (0, id) ≡ Some (place o.node.spot)
 owner_row look es id key o = get-rows_of look es id ∙ ap (row_found look id) o.numbered ∙ ap (row_of_node id) o.there ∙ row_of_live id o.node o.live o.named
 
-pub owner_spot : (look : Nodes) (es : List (ℤ × ℕ)) (id : ℤ) (key : ℕ) (n : Node) → IsOwner look (λ q. lookup (int_eq q) es) id key → look key ≡ Some n → Some n.spot ≡ spot_at (with_rows (rows_of look es)) id
+pub owner_spot : (look : Nodes) (es : List (ℤ × ℕ)) (id : ℤ) (key : ℕ) (n : Node) → IsOwner look (λ q. lookup (int_eq q) es) id key → look key ≡ Some n → Some n.spot ≡ spot_at (with_rows (tree_rows look es)) id
 owner_spot look es id key n o g =
     let same : o.node ≡ n = some_is o.node n (sym o.there ∙ g) in
     ap (λ (m : Node). Some m.spot) (sym same) ∙ ap (λ y. Some (record { id = y; x = o.node.spot.x; y = o.node.spot.y; z = o.node.spot.z })) o.named ∙ sym (ap (spot_of id) (owner_row look es id key o))

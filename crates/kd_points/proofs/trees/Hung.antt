@@ -12,7 +12,7 @@ use Rattle.kd_points.specs.declared.nodes.Seat.{Seat}
 use Rattle.kd_points.specs.declared.nodes.Seat.TheVariants.{Free, Empty}
 use Rattle.kd_points.specs.declared.tree.Tree.{Tree}
 use Rattle.kd_points.specs.Trees.{child, way, is_left, leaf_of, linked, FitsSpot, IsTree, IsSeat}
-use Rattle.kd_points.specs.TreeStates.{node_at, key_of, place, rows_of, tree_state, count_of, dead_nodes, IsSound, IsAlike, IsPlanted, IsBelow, has_node, NoPoint}
+use Rattle.kd_points.specs.TreeStates.{node_at, key_of, place, tree_rows, tree_state, count_of, dead_nodes, IsSound, IsAlike, IsPlanted, IsBelow, has_node, NoPoint}
 use Rattle.kd_points.proofs.states.Basics.{none_some, some_is}
 use Rattle.kd_points.proofs.states.StateRows.{with_rows, Settles}
 use Rattle.kd_points.proofs.states.Counts.{count-more}
@@ -23,7 +23,7 @@ use Rattle.kd_points.proofs.trees.Growth.{grown_stays, way_to_new, seat_stays, g
 
 -- where nothing but the room has changed
 pub alike_state : (old new : Tree) → IsAlike old new → tree_state new ≡ tree_state old
-alike_state old new a = λ i. with_rows (rows_of (λ key. slice_index_or (a.slots i) key None) (a.entries i))
+alike_state old new a = λ i. with_rows (tree_rows (λ key. slice_index_or (a.slots i) key None) (a.entries i))
 
 pub alike_sound : (old new : Tree) → IsAlike old new → IsSound old → IsSound new
 alike_sound old new a s = record {

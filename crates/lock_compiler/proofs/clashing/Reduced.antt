@@ -10,7 +10,7 @@ use Rattle.gx_base.specs.Tables.{Rows}
 use Rattle.cond_lattice.specs.Grades.{AreSimple}
 use Rattle.lock_compiler.specs.LockModes.{Member, LockMode, LockModes, no_mode, members_at, incompatible, Clash}
 use Rattle.lock_compiler.specs.Compiled.{compiled}
-use Rattle.lock_compiler.specs.Reduced.{stays, staying, members_like, merged_mode, reduced, are_alike}
+use Rattle.lock_compiler.specs.Reduced.{mode_stays, staying, members_like, merged_mode, reduced, are_alike}
 use Rattle.lock_compiler.proofs.reduction.Below.{passing_in, all_numbers_below}
 use Rattle.lock_compiler.proofs.reduction.Alike.{AlikeAt, alike_at, held_not_idle, asked_not_idle, HasStaying, has_staying, into_like, IsLike, in_like}
 use Rattle.lock_compiler.proofs.clashing.Needs.{ClashAt, clash_parts, clash_from}
@@ -45,7 +45,7 @@ down modes first second c =
     let asked : IsLike modes (mode_at modes c.asked) (length modes) (second.call.method, c.asked_place) =
     in_like modes (mode_at modes c.asked) (length modes) (second.call.method, c.asked_place)
     (subst (λ (ms : List Member). Contains ms (second.call.method, c.asked_place)) (merged_members modes c.asked asked_below) c.asked_member) in
-    let below : mode_at modes c.asked < length modes = all_numbers_below (stays modes) (length modes) c.asked 0 asked_below in
+    let below : mode_at modes c.asked < length modes = all_numbers_below (mode_stays modes) (length modes) c.asked 0 asked_below in
     record {
       held = held.number;
       asked = asked.number;
@@ -73,8 +73,8 @@ up : (modes : LockModes) (first second : Made) → ClashAt modes first second �
 up modes first second c =
     let h : HasStaying modes c.held = has_staying modes c.held c.held_below (held_not_idle modes c.held c.asked c.asked_below c.refused) in
     let a : HasStaying modes c.asked = has_staying modes c.asked c.asked_below (asked_not_idle modes c.held c.asked c.held_below c.refused) in
-    let x : StandsAt modes h.first = stands_at modes h.first (passing_in (stays modes) (length modes) h.first h.below h.it_stays) in
-    let y : StandsAt modes a.first = stands_at modes a.first (passing_in (stays modes) (length modes) a.first a.below a.it_stays) in
+    let x : StandsAt modes h.first = stands_at modes h.first (passing_in (mode_stays modes) (length modes) h.first h.below h.it_stays) in
+    let y : StandsAt modes a.first = stands_at modes a.first (passing_in (mode_stays modes) (length modes) a.first a.below a.it_stays) in
     record {
       held = x.place;
       asked = y.place;

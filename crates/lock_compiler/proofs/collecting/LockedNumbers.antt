@@ -15,33 +15,33 @@ use Rattle.cond_lattice.specs.Grades.{are_across, is_conjunction}
 use Rattle.cond_lattice.specs.Same.{same_sides}
 use Rattle.cond_lattice.specs.Simple.{stands_in}
 use Rattle.lock_compiler.specs.LockModes.{Member}
-use Rattle.lock_compiler.specs.Compiled.{with_number, with_term, with_condition, with_methods, locked_numbers, method_members, members_of}
+use Rattle.lock_compiler.specs.Compiled.{with_its_number, with_term, with_condition, with_methods, locked_numbers, method_members, members_of}
 use Rattle.lock_compiler.proofs.containing.Members.{none_in, first_in, later_in, in_either, map_in, flat_map_in, range_in}
 
-has_by : (n m : ℕ) (ms : List ℕ) (low same : Bool) → (n == m) ≡ same → Contains (with_number n ms) n → Contains (cond low (cond same (m ∷ ms) (n ∷ m ∷ ms)) (m ∷ with_number n ms)) n
+has_by : (n m : ℕ) (ms : List ℕ) (low same : Bool) → (n == m) ≡ same → Contains (with_its_number n ms) n → Contains (cond low (cond same (m ∷ ms) (n ∷ m ∷ ms)) (m ∷ with_its_number n ms)) n
 has_by n m ms true true e rest = subst (λ k. Contains (m ∷ ms) k) (sym (eqb-true n m e)) (first_in m ms)
 has_by n m ms true false e rest = first_in n (m ∷ ms)
-has_by n m ms false same e rest = later_in m (with_number n ms) n rest
+has_by n m ms false same e rest = later_in m (with_its_number n ms) n rest
 
-pub with_number-has : (n : ℕ) (xs : List ℕ) → Contains (with_number n xs) n
+pub with_number-has : (n : ℕ) (xs : List ℕ) → Contains (with_its_number n xs) n
 with_number-has n [] = first_in n []
 with_number-has n (m ∷ ms) = has_by n m ms (nat_le n m) (n == m) refl (with_number-has n ms)
 
-keeps_by : (n m : ℕ) (ms : List ℕ) (low same : Bool) (q : ℕ) → Contains (m ∷ ms) q → (Contains ms q → Contains (with_number n ms) q)
-    → Contains (cond low (cond same (m ∷ ms) (n ∷ m ∷ ms)) (m ∷ with_number n ms)) q
+keeps_by : (n m : ℕ) (ms : List ℕ) (low same : Bool) (q : ℕ) → Contains (m ∷ ms) q → (Contains ms q → Contains (with_its_number n ms) q)
+    → Contains (cond low (cond same (m ∷ ms) (n ∷ m ∷ ms)) (m ∷ with_its_number n ms)) q
 keeps_by n m ms true true q h rest = h
 keeps_by n m ms true false q h rest = later_in n (m ∷ ms) q h
 keeps_by n m ms false same q h rest =
     elim (in_either m ms q h) [
-      | inl e ↦ subst (λ k. Contains (m ∷ with_number n ms) k) e (first_in m (with_number n ms))
-      | inr there ↦ later_in m (with_number n ms) q (rest there)
+      | inl e ↦ subst (λ k. Contains (m ∷ with_its_number n ms) k) e (first_in m (with_its_number n ms))
+      | inr there ↦ later_in m (with_its_number n ms) q (rest there)
     ]
 
-with_number-keeps : (n : ℕ) (xs : List ℕ) (q : ℕ) → Contains xs q → Contains (with_number n xs) q
+with_number-keeps : (n : ℕ) (xs : List ℕ) (q : ℕ) → Contains xs q → Contains (with_its_number n xs) q
 with_number-keeps n [] q h = absurd (none_in q h)
 with_number-keeps n (m ∷ ms) q h = keeps_by n m ms (nat_le n m) (n == m) q h (with_number-keeps n ms q)
 
-on_side : (b : Bool) (place : ℕ) (xs : List ℕ) (q : ℕ) → Contains xs q → Contains (cond b (with_number place xs) xs) q
+on_side : (b : Bool) (place : ℕ) (xs : List ℕ) (q : ℕ) → Contains xs q → Contains (cond b (with_its_number place xs) xs) q
 on_side true place xs q h = with_number-keeps place xs q h
 on_side false place xs q h = h
 

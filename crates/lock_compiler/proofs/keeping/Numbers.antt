@@ -3,13 +3,13 @@ use Rattle.std.specs.Prelude.{◌≡◌, ◌≢◌, ℕ, zero, suc, ◌+◌, ◌
 use Rattle.std.specs.List.{position_from, insert}
 use Rattle.std.proofs.Common.{sym, ap, ◌∙◌, subst, arith, get_or, zero-add}
 use Rattle.std.proofs.lemmas.Bool.{cond-true, cond-false, eq-eqb, ne_eqb}
-use Rattle.lock_compiler.specs.Compiled.{with_number}
+use Rattle.lock_compiler.specs.Compiled.{with_its_number}
 
 -- a place where a number belongs: it stands there, or it is put there
 pub record Belongs (n : ℕ) (xs : List ℕ) (place : ℕ) : Type 0 where
   pub inside : place < length xs
-  pub there : get_or xs place 0 ≡ n → with_number n xs ≡ xs
-  pub put : get_or xs place 0 ≢ n → with_number n xs ≡ insert xs place n
+  pub there : get_or xs place 0 ≡ n → with_its_number n xs ≡ xs
+  pub put : get_or xs place 0 ≢ n → with_its_number n xs ≡ insert xs place n
 
 abbrev pub BelongsFrom : ℕ → ℕ → List ℕ → ℕ → Type 0
 BelongsFrom n k xs i = (place : ℕ) × (i ≡ k + place) × Belongs n xs place
@@ -44,15 +44,15 @@ belongs n xs place e =
     let found : BelongsFrom n 0 xs place = belongs_from n xs 0 place e in
     subst (λ i. Belongs n xs i) (sym (found.1 ∙ zero-add found.0)) found.2
 
-last_by : (n m : ℕ) (ms : List ℕ) (k : ℕ) (t : Bool) → nat_le n m ≡ t → (position_from (nat_le n) (k + 1) ms ≡ None → with_number n ms ≡ ms ++ n ∷ [])
-    → cond t (Some k) (position_from (nat_le n) (k + 1) ms) ≡ None → with_number n (m ∷ ms) ≡ m ∷ (ms ++ n ∷ [])
+last_by : (n m : ℕ) (ms : List ℕ) (k : ℕ) (t : Bool) → nat_le n m ≡ t → (position_from (nat_le n) (k + 1) ms ≡ None → with_its_number n ms ≡ ms ++ n ∷ [])
+    → cond t (Some k) (position_from (nat_le n) (k + 1) ms) ≡ None → with_its_number n (m ∷ ms) ≡ m ∷ (ms ++ n ∷ [])
 last_by n m ms k true low rest e = absurd (cc)
 last_by n m ms k false high rest e = cond-false (nat_le n m) _ _ high ∙ ap (λ xs. m ∷ xs) (rest e)
 
-last_from : (n : ℕ) (xs : List ℕ) (k : ℕ) → position_from (nat_le n) k xs ≡ None → with_number n xs ≡ xs ++ n ∷ []
+last_from : (n : ℕ) (xs : List ℕ) (k : ℕ) → position_from (nat_le n) k xs ≡ None → with_its_number n xs ≡ xs ++ n ∷ []
 last_from n [] k e = refl
 last_from n (m ∷ ms) k e = last_by n m ms k (nat_le n m) refl (last_from n ms (k + 1)) e
 
 -- a number above all others comes last
-pub comes_last : (n : ℕ) (xs : List ℕ) → position_from (nat_le n) 0 xs ≡ None → with_number n xs ≡ xs ++ n ∷ []
+pub comes_last : (n : ℕ) (xs : List ℕ) → position_from (nat_le n) 0 xs ≡ None → with_its_number n xs ≡ xs ++ n ∷ []
 comes_last n xs e = last_from n xs 0 e

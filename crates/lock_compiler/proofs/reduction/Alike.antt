@@ -4,7 +4,7 @@ use Rattle.std.proofs.Common.{sym, ap, ◌∙◌, subst, inl, inr, arith}
 use Rattle.std.proofs.lemmas.Bool.{and_parts, and_from, and_left, and_right, cases_lt, cases_Bool, not-false, not-true, not_from_false, cond-true, cond-false}
 use Rattle.std.proofs.lemmas.List.Elements.{Contains-append_left, Contains-append_right, Contains-append_cases}
 use Rattle.lock_compiler.specs.LockModes.{Member, LockModes, members_at, incompatible}
-use Rattle.lock_compiler.specs.Reduced.{all_below, same_answer, are_compatible, is_idle, tells_alike, are_alike, is_unlike, stays, members_like}
+use Rattle.lock_compiler.specs.Reduced.{all_below, same_answer, are_compatible, is_idle_mode, tells_alike, are_alike, is_unlike, mode_stays, members_like}
 use Rattle.lock_compiler.proofs.containing.Members.{none_in}
 use Rattle.lock_compiler.proofs.reduction.Below.{all_below-not, all_below-at, all_below-from, one_fails}
 
@@ -47,17 +47,17 @@ alike-alike modes x y z h k =
     record { held = a.held ∙ b.held; asked = a.asked ∙ b.asked })
 
 -- what is like an idle mode is idle
-idle-alike : (modes : LockModes) (x y : ℕ) → are_alike modes x y ≡ true → is_idle modes x ≡ true → is_idle modes y ≡ true
+idle-alike : (modes : LockModes) (x y : ℕ) → are_alike modes x y ≡ true → is_idle_mode modes x ≡ true → is_idle_mode modes y ≡ true
 idle-alike modes x y h idle =
     all_below-from (are_compatible modes y) (length modes) (λ other lt.
     let a : AlikeAt modes x y other = alike_at modes x y other h lt in
     (λ k. not (sym a.held k) && not (sym a.asked k)) ∙ all_below-at (are_compatible modes x) (length modes) other idle lt)
 
-pub held_not_idle : (modes : LockModes) (held asked : ℕ) → asked < length modes → incompatible modes held asked ≡ true → is_idle modes held ≡ false
+pub held_not_idle : (modes : LockModes) (held asked : ℕ) → asked < length modes → incompatible modes held asked ≡ true → is_idle_mode modes held ≡ false
 held_not_idle modes held asked lt r =
     all_below-not (are_compatible modes held) (length modes) asked lt (and_left (not (incompatible modes held asked)) (not (incompatible modes asked held)) (ap not r))
 
-pub asked_not_idle : (modes : LockModes) (held asked : ℕ) → held < length modes → incompatible modes held asked ≡ true → is_idle modes asked ≡ false
+pub asked_not_idle : (modes : LockModes) (held asked : ℕ) → held < length modes → incompatible modes held asked ≡ true → is_idle_mode modes asked ≡ false
 asked_not_idle modes held asked lt r =
     all_below-not (are_compatible modes asked) (length modes) held lt (and_right (not (incompatible modes asked held)) (not (incompatible modes held asked)) (ap not r))
 
@@ -65,35 +65,35 @@ asked_not_idle modes held asked lt r =
 pub record HasStaying (modes : LockModes) (mode : ℕ) : Type 0 where
   pub first : ℕ
   pub below : first < length modes
-  pub it_stays : stays modes first ≡ true
+  pub it_stays : mode_stays modes first ≡ true
   pub alike : are_alike modes first mode ≡ true
 
-earlier_staying : (modes : LockModes) (mode earlier : ℕ) → is_idle modes mode ≡ false → are_alike modes earlier mode ≡ true → (is_idle modes earlier ≡ false → HasStaying modes earlier)
-    → (is_idle modes earlier ≡ true) ⊎ (is_idle modes earlier ≡ false) → HasStaying modes mode
-earlier_staying modes mode earlier busy alike rest (inl idle) = absurd (let no : is_idle modes mode ≡ true = idle-alike modes earlier mode alike idle in cc)
+earlier_staying : (modes : LockModes) (mode earlier : ℕ) → is_idle_mode modes mode ≡ false → are_alike modes earlier mode ≡ true → (is_idle_mode modes earlier ≡ false → HasStaying modes earlier)
+    → (is_idle_mode modes earlier ≡ true) ⊎ (is_idle_mode modes earlier ≡ false) → HasStaying modes mode
+earlier_staying modes mode earlier busy alike rest (inl idle) = absurd (let no : is_idle_mode modes mode ≡ true = idle-alike modes earlier mode alike idle in cc)
 earlier_staying modes mode earlier busy alike rest (inr awake) =
     let s : HasStaying modes earlier = rest awake in
     record { first = s.first; below = s.below; it_stays = s.it_stays; alike = alike-alike modes s.first earlier mode s.alike alike }
 
 -- each mode that isn't idle has one
-staying_within : (modes : LockModes) (n mode : ℕ) → mode < n → mode < length modes → is_idle modes mode ≡ false → HasStaying modes mode
+staying_within : (modes : LockModes) (n mode : ℕ) → mode < n → mode < length modes → is_idle_mode modes mode ≡ false → HasStaying modes mode
 staying_within modes zero mode lt below busy = absurd (omega arith)
 staying_within modes (suc n) mode lt below busy =
     elim (cases_Bool (all_below (is_unlike modes mode) mode)) [
       | inl none ↦ record {
         first = mode;
         below = below;
-        it_stays = and_from (not (is_idle modes mode)) (all_below (is_unlike modes mode) mode) (not_from_false (is_idle modes mode) busy) none;
+        it_stays = and_from (not (is_idle_mode modes mode)) (all_below (is_unlike modes mode) mode) (not_from_false (is_idle_mode modes mode) busy) none;
         alike = alike-itself modes mode;
       }
       | inr some ↦
           let f = one_fails (is_unlike modes mode) mode some in
           let earlier : f.0 < mode = f.1 in
           earlier_staying modes mode f.0 busy (not-false (are_alike modes f.0 mode) f.2)
-          (staying_within modes n f.0 (omega arith) (omega arith)) (cases_Bool (is_idle modes f.0))
+          (staying_within modes n f.0 (omega arith) (omega arith)) (cases_Bool (is_idle_mode modes f.0))
     ]
 
-pub has_staying : (modes : LockModes) (mode : ℕ) → mode < length modes → is_idle modes mode ≡ false → HasStaying modes mode
+pub has_staying : (modes : LockModes) (mode : ℕ) → mode < length modes → is_idle_mode modes mode ≡ false → HasStaying modes mode
 has_staying modes mode below busy = staying_within modes (suc mode) mode (omega arith) below busy
 
 -- the members of modes that are like one

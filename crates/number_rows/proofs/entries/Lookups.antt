@@ -9,7 +9,7 @@ use Rattle.std.specs.FinMap as map
 use Rattle.number_rows.specs.Entries.{FitAll}
 use Rattle.number_rows.specs.NumbersAsRows.{number_in}
 use Rattle.number_rows.specs.declared.rows.NumberRows.{NumberRows}
-use Rattle.number_rows.specs.NumberRows.{rows_of}
+use Rattle.number_rows.specs.NumberRows.{number_rows_of}
 
 find-lookup : (es : List (ℤ × ℤ)) (q : ℤ) → map.find int_cmp q es ≡ lookup (int_eq q) es
 find-lookup [] q = refl
@@ -43,5 +43,5 @@ pub FitAll-number_in : (es : List (ℤ × ℤ)) → FitAll es → (q : ℤ) → 
 FitAll-number_in es h q = subst (FitsSigned w64) (sym (ap (λ o. unwrap_or o (pos 0)) (get-entries es q))) (h q)
 
 -- each number is one of 64 bits
-pub number-fits : (rows : NumberRows) (k : ℤ) → FitsSigned w64 (number_in (rows_of rows) k)
+pub number-fits : (rows : NumberRows) (k : ℤ) → FitsSigned w64 (number_in (number_rows_of rows) k)
 number-fits rows k = FitAll-number_in rows.numbers.entries rows.fit k

@@ -5,7 +5,7 @@ use Rattle.std.specs.Ordering.{int_cmp, int_eq}
 use Rattle.std.specs.Cmp.{int_cmp_total, int_eq_equiv}
 use Rattle.std.specs.FinMap as map
 use Rattle.number_rows.specs.declared.rows.NumberRows.{NumberRows}
-use Rattle.number_rows.specs.NumberRows.{rows_of}
+use Rattle.number_rows.specs.NumberRows.{number_rows_of}
 
 -- the key that is written has a row, and a row that is there stays
 pub contains_key-insert : (m : map.FinMap int_cmp ℤ) (k x q : ℤ) → IsTrue (map.contains_key m q) → IsTrue (map.contains_key (map.insert m k x) q)
@@ -25,7 +25,7 @@ kept_after_write (Err e) m n k x ok err q h = subst (λ l. IsTrue (map.contains_
 
 -- each row stays
 abbrev pub KeepsRows : NumberRows → NumberRows → Type 0
-KeepsRows old new = (q : ℤ) → IsTrue (map.contains_key (rows_of old) q) → IsTrue (map.contains_key (rows_of new) q)
+KeepsRows old new = (q : ℤ) → IsTrue (map.contains_key (number_rows_of old) q) → IsTrue (map.contains_key (number_rows_of new) q)
 
 -- where the key and the number were written as bits
 pub put_at : (m n : map.FinMap int_cmp ℤ) (k kk x xx : ℤ) → kk ≡ k → xx ≡ x → n ≡ map.insert m kk xx → n ≡ map.insert m k x

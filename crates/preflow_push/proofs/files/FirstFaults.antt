@@ -9,7 +9,7 @@ use Rattle.preflow_push.specs.declared.network.Arc as arcs
 use Rattle.text_lines.specs.Lines.{lines_of}
 use Rattle.text_lines.specs.Numbers.{number_of, digits_value_of}
 use Rattle.preflow_push.specs.FlowLines.{said_by}
-use Rattle.preflow_push.specs.FlowReading.{FileState, at_first, may_be_terminal, step, whole, ended, then_read, read_from, flow_of}
+use Rattle.preflow_push.specs.FlowReading.{FileState, at_first, may_be_terminal, step, whole, read_to_end, then_read, read_from, flow_of}
 use Rattle.preflow_push.specs.Networks.{Net}
 use Rattle.preflow_push.specs.FlowFiles.{new_arc, AreFlow, CanGoOn, IsFirstBadLine}
 use Rattle.preflow_push.proofs.files.LineTests.{stand_so, go_so, free_so, eq_so, Stands}
@@ -185,7 +185,7 @@ record Stops (xs : List Said) (s : FileState) (k j : ℕ) : Type 0 where
   here : n < length xs → after (take (suc n) xs) s ≡ None
   missing : n ≡ length xs → (t : FileState) × (after xs s ≡ Some t) × (whole t ≡ None)
 
-ended_err : (o : Option Net) (k j : ℕ) → ended o k ≡ Err j → (o ≡ None) × (k ≡ j)
+ended_err : (o : Option Net) (k j : ℕ) → read_to_end o k ≡ Err j → (o ≡ None) × (k ≡ j)
 ended_err None k j h = (refl, cc)
 ended_err (Some net) k j h = absurd cc
 

@@ -7,7 +7,7 @@ use Rattle.std.proofs.lemmas.List.{append-nil}
 use Rattle.preflow_push.specs.declared.flow_lines.Said.{Said}
 use Rattle.preflow_push.specs.declared.flow_lines.Said.TheVariants.{Nothing, Problem, Source, Sink, Arc, Wrong}
 use Rattle.preflow_push.specs.declared.network.Arc as arcs
-use Rattle.preflow_push.specs.FlowReading.{FileState, at_first, may_be_terminal, may_go, step, whole, whole_of, ended, then_read, read_from}
+use Rattle.preflow_push.specs.FlowReading.{FileState, at_first, may_be_terminal, may_go, step, whole, whole_of, read_to_end, then_read, read_from}
 use Rattle.preflow_push.specs.Networks.{Net}
 use Rattle.preflow_push.specs.FlowFiles.{new_arc, spoken, sources, sinks, arcs_of, IsNode, IsOf, IsFlowOf}
 use Rattle.preflow_push.proofs.files.LineTests.{stand_is, stand_so, go_is, go_so, free_so, eq_so, Stands}
@@ -34,14 +34,14 @@ whole_step None xs k t net others h = absurd cc
 whole_step (Some u) xs k t net others h = others u h
 
 pub whole_read : (xs : List Said) (k : ℕ) (s t : FileState) (net : Net) → after xs s ≡ Some t → whole t ≡ Some net → read_from xs k s ≡ Ok net
-whole_read [] k s t net h w = let e : s ≡ t = cc in ap (λ (u : FileState). ended (whole u) k) e ∙ rw w refl
+whole_read [] k s t net h w = let e : s ≡ t = cc in ap (λ (u : FileState). read_to_end (whole u) k) e ∙ rw w refl
 whole_read (x ∷ xs) k s t net h w = whole_step (step x s) xs k t net (λ u g. whole_read xs (k + 1) u t net g w) h
 
 -- the lines lead to a state with the whole network
 abbrev pub Reads : Option FileState → Net → Type 0
 Reads o net = (t : FileState) × (o ≡ Some t) × (whole t ≡ Some net)
 
-ended_ok : (o : Option Net) (k : ℕ) (net : Net) → ended o k ≡ Ok net → o ≡ Some net
+ended_ok : (o : Option Net) (k : ℕ) (net : Net) → read_to_end o k ≡ Ok net → o ≡ Some net
 ended_ok None k net h = absurd cc
 ended_ok (Some n) k net h = cc
 

@@ -16,10 +16,10 @@ use Rattle.preflow_push.specs.declared.stages.Walk.{Walk}
 use Rattle.preflow_push.specs.declared.stages.Stage.{Stage}
 use Rattle.preflow_push.specs.declared.stages.Stage.TheVariants as stages
 use Rattle.preflow_push.specs.declared.discharge.Discharge.{Discharge}
-use Rattle.preflow_push.specs.FlowCalls.{rooms, room_of, call_of, relabel, flow, height, send}
+use Rattle.preflow_push.specs.FlowCalls.{rooms, room_of, flow_call_of, relabel, flow, height, send}
 use Rattle.preflow_push.specs.Discharge.{rise, along, residual, lesser, after_flow, after_height, sending, sent_along, is_just_above, after_gains, push_unless, unless_spent, is_terminal}
 use Rattle.preflow_push.specs.Stages.{acts_over}
-use Rattle.preflow_push.specs.Discharges.{MovesTo, ends_of, lists_of, rest_of, acts_of, onward_of, acts_onward}
+use Rattle.preflow_push.specs.Discharges.{MovesTo, ends_of, lists_of, body_rest, acts_of, onward_of, acts_onward}
 
 pub room_of-lt : (n : ℤ) → room_of n < rooms
 room_of-lt (pos a) = mod-lt a (omega arith)
@@ -27,12 +27,12 @@ room_of-lt (negsuc a) = omega arith
 
 -- a call in the room of a node or an arc
 pub calls : (d : Discharge) (n : ℤ) (call : CallOf) (goes_on : Reply → Plan) (bound : ℕ) (act : Act) (stage : Stage)
-    → act ≡ acts.Call (room_of n) call → ((reply : Reply) → rest_of d stage (Some reply) ≡ goes_on reply) → acts_of d stage < bound
+    → act ≡ acts.Call (room_of n) call → ((reply : Reply) → body_rest d stage (Some reply) ≡ goes_on reply) → acts_of d stage < bound
     → MovesTo d (Call (room_of n) call goes_on) bound act stage
 calls d n call goes_on bound act stage e rest falls = moves_by_call (room_of n) call goes_on bound act stage e (room_of-lt n) rest falls
 
-pub call_along : (act : Act) (method : ℕ) (m n x y : ℤ) → m ≡ n → x ≡ y → act ≡ acts.Call (room_of m) (call_of method m x) → act ≡ acts.Call (room_of n) (call_of method n y)
-call_along act method m n x y e f h = h ∙ ap (λ (k : ℤ). acts.Call (room_of k) (call_of method k x)) e ∙ ap (λ (z : ℤ). acts.Call (room_of n) (call_of method n z)) f
+pub call_along : (act : Act) (method : ℕ) (m n x y : ℤ) → m ≡ n → x ≡ y → act ≡ acts.Call (room_of m) (flow_call_of method m x) → act ≡ acts.Call (room_of n) (flow_call_of method n y)
+call_along act method m n x y e f h = h ∙ ap (λ (k : ℤ). acts.Call (room_of k) (flow_call_of method k x)) e ∙ ap (λ (z : ℤ). acts.Call (room_of n) (flow_call_of method n z)) f
 
 -- what is left at a place of a list
 drop_some : (xs : List Touch) (i : ℕ) (x : Touch) → slice_get xs i ≡ Some x → drop i xs ≡ x ∷ drop (i + 1) xs

@@ -18,7 +18,7 @@ use Rattle.gx_base.specs.Replays.{in_rooms, put}
 use Rattle.flow_graph.specs.declared.shard.FlowShard.{FlowShard}
 use Rattle.flow_graph.specs.FlowState.{state_of}
 use Rattle.preflow_push.specs.declared.network.Arc.{Arc}
-use Rattle.preflow_push.specs.FlowCalls.{rooms, relabel_method, gain_method, send_method, room_of, call_of, minus}
+use Rattle.preflow_push.specs.FlowCalls.{rooms, relabel_method, gain_method, send_method, room_of, flow_call_of, minus}
 use Rattle.preflow_push.specs.FlowStates.{excess_in, flow_in}
 use Rattle.preflow_push.specs.Starts.{set_in, with_height, with_gain, with_flow, filled, empty_shard, empty_rooms}
 use Rattle.commit_book.proofs.CallerLemmas.{in_rooms-set_object, in_rooms-object}
@@ -45,25 +45,25 @@ unfolding next_state
 next_on s c e = ap (λ (k : ℕ). (meaning_of k).next s c) e
 
 next_in : (shards : List FlowShard) (method : ℕ) (n x : ℤ) → length shards ≡ rooms
-    → put (rooms_of shards) (room_of n) (next_state (rooms_of shards (room_of n)) (call_of method n x)) ≡ put (rooms_of shards) (room_of n) (next_by (flow_use method) (rooms_of shards (room_of n)) (call_of method n x))
+    → put (rooms_of shards) (room_of n) (next_state (rooms_of shards (room_of n)) (flow_call_of method n x)) ≡ put (rooms_of shards) (room_of n) (next_by (flow_use method) (rooms_of shards (room_of n)) (flow_call_of method n x))
 next_in shards method n x e =
     let below = room_of-lt n in
     let lt : room_of n < length shards = omega arith in
-    ap (put (rooms_of shards) (room_of n)) (next_on (rooms_of shards (room_of n)) (call_of method n x) (kind_in shards (room_of n) lt))
+    ap (put (rooms_of shards) (room_of n)) (next_on (rooms_of shards (room_of n)) (flow_call_of method n x) (kind_in shards (room_of n) lt))
 
 pub relabels : (shards : List FlowShard) (n m x y : ℤ) → length shards ≡ rooms → n ≡ m → x ≡ y
-    → put (rooms_of shards) (room_of n) (next_state (rooms_of shards (room_of n)) (call_of relabel_method n x)) ≡ with_height m y (rooms_of shards)
+    → put (rooms_of shards) (room_of n) (next_state (rooms_of shards (room_of n)) (flow_call_of relabel_method n x)) ≡ with_height m y (rooms_of shards)
 relabels shards n m x y len e f = next_in shards relabel_method n x len ∙ (λ i. with_height (e i) (f i) (rooms_of shards))
 
 pub gains : (shards : List FlowShard) (n m x y : ℤ) → length shards ≡ rooms → n ≡ m → x ≡ y
-    → put (rooms_of shards) (room_of n) (next_state (rooms_of shards (room_of n)) (call_of gain_method n x)) ≡ with_gain m y (rooms_of shards)
+    → put (rooms_of shards) (room_of n) (next_state (rooms_of shards (room_of n)) (flow_call_of gain_method n x)) ≡ with_gain m y (rooms_of shards)
 gains shards n m x y len e f = next_in shards gain_method n x len ∙ (λ i. with_gain (e i) (f i) (rooms_of shards))
 
 zero_add : (x : ℤ) → FitsSigned w64 x → int_wrapping_add w64 (pos 0) x ≡ x
 zero_add x h = ap (cast_signed w64) (ap (λ (k : ℕ). k % 2 ^ 64) (let e : 0 + cast_unsigned w64 x ≡ cast_unsigned w64 x = omega arith in e) ∙ mod-eq_of_lt (below_bits x h)) ∙ to_z-of_z w64 x h
 
 pub sends : (shards : List FlowShard) (n m x y : ℤ) → length shards ≡ rooms → n ≡ m → x ≡ y → FitsSigned w64 y → flow_in (rooms_of shards) m ≡ pos 0
-    → put (rooms_of shards) (room_of n) (next_state (rooms_of shards (room_of n)) (call_of send_method n x)) ≡ with_flow m y (rooms_of shards)
+    → put (rooms_of shards) (room_of n) (next_state (rooms_of shards (room_of n)) (flow_call_of send_method n x)) ≡ with_flow m y (rooms_of shards)
 sends shards n m x y len e f fits none =
     next_in shards send_method n x len
     ∙ (λ i. set_in flow_sort (e i) (int_wrapping_add w64 (flow_in (rooms_of shards) (e i)) (f i)) (rooms_of shards))

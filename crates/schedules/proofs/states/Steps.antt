@@ -2,17 +2,17 @@
 use Rattle.std.specs.Prelude.{◌≡◌, ℕ, zero, suc, ◌+◌, ◌*◌, ◌/◌, ◌%◌, ◌==◌, Bool, true, false, if◌then◌else◌, refl}
 use Rattle.std.proofs.Common.{◌∙◌, ap, subst, arith}
 use Rattle.std.proofs.lemmas.Bool.Decides.{nat_tests}
-use Rattle.schedules.specs.Draws.{next_state, state_after}
+use Rattle.schedules.specs.Draws.{next_draw_state, state_after}
 
 -- a map done so many times
 abbrev pub times : (ℕ → ℕ) → ℕ → ℕ → ℕ
 times f zero x = x
 times f (suc k) x = f (times f k x)
 
-pub state_after-times : (x k : ℕ) → times next_state k x ≡ state_after x k
+pub state_after-times : (x k : ℕ) → times next_draw_state k x ≡ state_after x k
 unfolding state_after
 state_after-times x zero = refl
-state_after-times x (suc k) = ap next_state (state_after-times x k)
+state_after-times x (suc k) = ap next_draw_state (state_after-times x k)
 
 pub times-same : (f g : ℕ → ℕ) → ((x : ℕ) → f x ≡ g x) → (k x : ℕ) → times f k x ≡ times g k x
 times-same f g same zero x = refl

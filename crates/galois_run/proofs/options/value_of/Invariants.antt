@@ -1,10 +1,10 @@
 use Rattle.std.proofs.Common.{◌≡◌, length, map, string_bytes}
-use Rattle.galois_run.specs.RunOptions.{value_of}
+use Rattle.galois_run.specs.RunOptions.{option_value}
 use Rattle.galois_run.proofs.options.value_of.Given as goal
 
 -- the names passed so far are others
 abbrev pub invariant-names : goal.invariant-names
-invariant-names l = value_of (map string_bytes l.rest) l.name ≡ value_of (map string_bytes l.words) l.name
+invariant-names l = option_value (map string_bytes l.rest) l.name ≡ option_value (map string_bytes l.words) l.name
 
 abbrev pub decreases-names : goal.decreases-names
 decreases-names l = length l.rest

@@ -3,7 +3,7 @@ use Rattle.std.specs.Prelude.{Some, None, IsTrue}
 use Rattle.gx_base.specs.Kinds.{kind_number}
 use Rattle.gate_core.specs.declared.refusals.GateRefuse.TheVariants.{Conflict}
 use Rattle.gate_core.specs.Entries.{made_of}
-use Rattle.gate_core.specs.Views.{GateView, rows_of, live_start, asked_entry, in_way}
+use Rattle.gate_core.specs.Views.{GateView, gate_rows, live_start, asked_entry, in_way}
 use Rattle.gate_core.specs.CallAnswers.{IsAdmitted, TellsOf, GateRefusalFits}
 use Rattle.gate_core.proofs.lists.EntryLists.{each_same}
 use Rattle.gate_core.proofs.deeds.Asking.{Asks, asks, lead_to, rooms_asked, told_of, taken_back, same_view, gate_same, gate_admits, admitted}
@@ -64,7 +64,7 @@ returns-in-Some-clause-err g c =
     let a : Asks v c.args.worker c.args.iter c.args.item c.args.call c.in_ok-asked.asked (g.T.SeqType.state c.ask.new.object) c.take_memory.new.live.entries.items =
     asks v c.args.worker c.args.iter c.args.item c.args.call c.in_ok-asked.asked (g.T.SeqType.state c.take_memory.new.object) (g.T.SeqType.state c.ask.new.object) c.take_memory.new.live.entries.items
     c.take_memory.ensures.state c.in_ok-asked.ensures.asked c.in_ok-asked.ensures.ok c.take_memory.ensures.live in
-    let told : TellsOf (rows_of v) (live_start v) v.live (asked_entry c.args.worker c.args.iter c.args.item c.args.call v.state) (Some c.in-Some.told) = told_of v c.args.worker c.args.iter c.args.item c.args.call c.in_ok-asked.asked (g.T.SeqType.state c.ask.new.object) c.take_memory.new.live.entries.items (Some c.in-Some.told) c.self.invariant.lawful c.in_ok-asked.ensures.call a c.in-Some.ensures.told in
+    let told : TellsOf (gate_rows v) (live_start v) v.live (asked_entry c.args.worker c.args.iter c.args.item c.args.call v.state) (Some c.in-Some.told) = told_of v c.args.worker c.args.iter c.args.item c.args.call c.in_ok-asked.asked (g.T.SeqType.state c.ask.new.object) c.take_memory.new.live.entries.items (Some c.in-Some.told) c.self.invariant.lawful c.in_ok-asked.ensures.call a c.in-Some.ensures.told in
     let back : g.T.SeqType.state c.take_back.new.object ≡ v.state =
     taken_back v c.args.worker c.args.iter c.args.item c.args.call c.in_ok-asked.asked (g.T.SeqType.state c.ask.new.object) (g.T.SeqType.state c.conflict.new.object) (g.T.SeqType.state c.take_back.new.object) c.take_memory.new.live.entries.items
     c.self.invariant.lawful c.in_ok-asked.ensures.call a c.in-Some.ensures.state c.take_back.ensures.state in
