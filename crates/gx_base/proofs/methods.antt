@@ -1,2 +1,3 @@
 pub mod MethodPlaces
 pub mod MethodSearch
+pub mod MethodWords

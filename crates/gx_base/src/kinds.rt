@@ -1,8 +1,8 @@
-ghost use Rattle.std.specs.Prelude.{◌≡◌, ◌-◌, length, find, bytes_eq};
+ghost use Rattle.std.specs.Prelude.{◌≡◌, ◌-◌, [], ◌∷◌, length, map, find, bytes_eq};
 ghost use Rattle.std.specs.List.{range_with_len};
+ghost use Rattle.gx_base.specs.declared.kinds.Kind.TheVariants.{Set, Cells, Flow, Points, Domains};
 ghost use Rattle.gx_base.specs.Kinds.{kind_number};
 ghost use Rattle.gx_base.specs.Methods as methods;
-ghost use Rattle.gx_base.specs.Methods.{words_of};
 
 /// The kinds of objects.
 #[derive(Clone, Copy, Debug, PartialEq, Eq, Drop)]
@@ -27,6 +27,15 @@ pub enum Choice {
     Global,
 }
 
+/// All kinds, by rising number.
+const KINDS: [Kind; 5] = [
+    Kind::Set,
+    Kind::Cells,
+    Kind::Flow,
+    Kind::Points,
+    Kind::Domains,
+];
+
 /// The number of the first method of a kind, which the kind's others follow one after another.
 fn first_method(kind: Kind) -> u32
     ensures { result ≡ methods.first_method (kind_number kind) }
@@ -40,15 +49,23 @@ fn first_method(kind: Kind) -> u32
     }
 }
 
-fn method_count(kind: Kind) -> u32
-    ensures { result ≡ length (words_of (kind_number kind)) }
+/// The words of a kind's methods, by rising number.
+fn words_of(kind: Kind) -> &'static [&'static str]
+    ensures { map (λ word. word.now) result.now ≡ methods.words_of (kind_number kind) }
 {
     match kind {
-        Kind::Set | Kind::Cells => 3,
-        Kind::Flow => 6,
-        Kind::Points => 4,
-        Kind::Domains => 5,
+        Kind::Set => &["add", "remove", "contains"],
+        Kind::Cells => &["read", "add", "set"],
+        Kind::Flow => &["height", "relabel", "excess", "gain", "flow", "send"],
+        Kind::Points => &["add", "remove", "at", "nearest"],
+        Kind::Domains => &["weigh", "total", "move", "credit", "sum"],
     }
+}
+
+fn method_count(kind: Kind) -> u32
+    ensures { result ≡ length (methods.words_of (kind_number kind)) }
+{
+    words_of(kind).len() as u32
 }
 
 /// The first method among those from one number up to another that has this word.
@@ -77,32 +94,27 @@ pub fn method_at(kind: Kind, i: u32) -> Option<u32>
     }
 }
 
+/// Whether a kind has a method of this number.
+fn has_method(kind: Kind, method: u32) -> bool
+    ensures { result ≡ methods.is_method (kind_number kind) method }
+{
+    let first = first_method(kind);
+    first <= method && method < first + method_count(kind)
+}
+
+/// The kind that has a method of this number.
+fn kind_with(method: u32) -> Option<Kind>
+    ensures { result ≡ find (λ kind. methods.is_method (kind_number kind) method) (Set ∷ Cells ∷ Flow ∷ Points ∷ Domains ∷ []) }
+{
+    KINDS.iter().copied().find(|kind| has_method(*kind, method))
+}
+
 /// The word of a method, and `?` for a number that no kind has.
 pub fn word_of(method: u32) -> &'static str
     ensures { result.now ≡ methods.word_of method }
 {
-    match method {
-        0 => "add",
-        1 => "remove",
-        2 => "contains",
-        8 => "read",
-        9 => "add",
-        10 => "set",
-        16 => "height",
-        17 => "relabel",
-        18 => "excess",
-        19 => "gain",
-        20 => "flow",
-        21 => "send",
-        32 => "add",
-        33 => "remove",
-        34 => "at",
-        35 => "nearest",
-        48 => "weigh",
-        49 => "total",
-        50 => "move",
-        51 => "credit",
-        52 => "sum",
-        _ => "?",
+    match kind_with(method) {
+        Some(kind) => words_of(kind)[(method - first_method(kind)) as usize],
+        None => "?",
     }
 }
