@@ -16,8 +16,8 @@ loop-turn-preserved c =
     let here = c.loop-turn.invariant in
     let pushed = c.in_ok-push.ensures.items in
     record {
-      state = state_next seed k c.loop-turn.state c.next_state-state.result here.state c.next_state-state.ensures;
+      state = state_next seed k c.loop-turn.state c.next_draw_state-state.result here.state c.next_draw_state-state.ensures;
       turns = more_turns seed c.args.workers k c.worker_of.result c.loop-turn.all.items c.push.new.self.items here.turns
-          (turn_worker seed k c.args.workers c.loop-turn.state c.next_state-state.result c.worker_of.result here.state c.next_state-state.ensures c.worker_of.ensures.turn) pushed;
+          (turn_worker seed k c.args.workers c.loop-turn.state c.next_draw_state-state.result c.worker_of.result here.state c.next_draw_state-state.ensures c.worker_of.ensures.turn) pushed;
       within = subst (All (λ (worker : ℕ). worker < c.args.workers)) (sym pushed) (All-push (λ (worker : ℕ). worker < c.args.workers) c.loop-turn.all.items c.worker_of.result here.within c.worker_of.ensures.within);
     }
