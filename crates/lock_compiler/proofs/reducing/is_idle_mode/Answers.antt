@@ -1,7 +1,7 @@
 use Rattle.std.proofs.Common.{length, sym, arith}
 use Rattle.lock_compiler.specs.Reduced.{are_compatible}
 use Rattle.lock_compiler.proofs.reduction.Below.{all_below-not}
-use Rattle.lock_compiler.proofs.reducing.is_idle.Goals as goal
+use Rattle.lock_compiler.proofs.reducing.is_idle_mode.Goals as goal
 
 pub returns-then-not-are_compatible : goal.returns-then-not-are_compatible
 returns-then-not-are_compatible c =

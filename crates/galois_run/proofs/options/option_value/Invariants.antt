@@ -1,6 +1,6 @@
 use Rattle.std.proofs.Common.{◌≡◌, length, map, string_bytes}
 use Rattle.galois_run.specs.RunOptions.{option_value}
-use Rattle.galois_run.proofs.options.value_of.Given as goal
+use Rattle.galois_run.proofs.options.option_value.Given as goal
 
 -- the names passed so far are others
 abbrev pub invariant-names : goal.invariant-names

@@ -3,7 +3,7 @@ use Rattle.std.specs.Prelude.{not}
 use Rattle.std.proofs.lemmas.Bool.{and_right}
 use Rattle.lock_compiler.specs.Reduced.{all_below, is_idle_mode, is_unlike}
 use Rattle.lock_compiler.proofs.reduction.Below.{all_below-not}
-use Rattle.lock_compiler.proofs.reducing.stays.Goals as goal
+use Rattle.lock_compiler.proofs.reducing.mode_stays.Goals as goal
 
 pub returns-then-are_alike : goal.returns-then-are_alike
 returns-then-are_alike c =
