@@ -1,4 +1,1 @@
-pub mod meanings
 pub mod refusals
-pub mod run_options
-pub mod gate_tables

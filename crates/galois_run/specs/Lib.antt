@@ -1,13 +1,3 @@
 pub mod Statuses
-pub mod RunOptions
-pub mod RunTables
-pub mod Words
-pub mod Inputs
-pub mod CommandMeaning
-pub mod LoopRuns
-pub mod LoopCommands
-pub mod LoopRooms
-pub mod commands
-pub mod CommandMeanings
-pub mod RunFaults
+pub mod FaultStatuses
 pub mod RunTurns

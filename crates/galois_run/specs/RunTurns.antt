@@ -5,11 +5,11 @@ use Rattle.gx_io.specs.Sinks.{Written, AddsWhole, AddsFront}
 use Rattle.gx_base.specs.declared.inputs.What.{What}
 use Rattle.galois_run.specs.declared.status.Status.{Status}
 use Rattle.galois_run.specs.declared.status.Status.TheVariants.{Ok, Usage, BadInput, ReadFault, WriteFault, NoMemory, TooLarge, Spent, Kept, BadTable}
-use Rattle.galois_run.specs.declared.status.TableFault.{TableFault}
+use Rattle.run_commands.specs.declared.run_faults.TableFault.{TableFault}
 use Rattle.speculation.specs.Limits.{Limit}
 use Rattle.speculation.specs.Limits as limits
-use Rattle.galois_run.specs.Inputs.{Inputs, AreWithinLength, PassesFileLimit, IsFileLimit}
-use Rattle.galois_run.specs.CommandMeaning.{CommandMeaning}
+use Rattle.run_commands.specs.Inputs.{Inputs, AreWithinLength, PassesFileLimit, IsFileLimit}
+use Rattle.run_commands.specs.CommandMeaning.{CommandMeaning}
 
 -- the answers that may come at any place, in place of the one that the input calls for
 abbrev pub GivesUp : Status → Type 0

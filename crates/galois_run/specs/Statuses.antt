@@ -5,8 +5,8 @@ use Rattle.gx_base.specs.declared.inputs.What.{What}
 use Rattle.gx_base.specs.declared.inputs.What.TheVariants.{File, Nodes, Arcs, Points, Nets, Horizon, Size}
 use Rattle.galois_run.specs.declared.status.Status.{Status}
 use Rattle.galois_run.specs.declared.status.Status.TheVariants.{Ok, Usage, BadInput, ReadFault, WriteFault, NoMemory, TooLarge, Spent, Kept, BadTable}
-use Rattle.galois_run.specs.declared.status.TableFault.{TableFault}
-use Rattle.galois_run.specs.declared.status.TableFault.TheVariants.{Line, Pair}
+use Rattle.run_commands.specs.declared.run_faults.TableFault.{TableFault}
+use Rattle.run_commands.specs.declared.run_faults.TableFault.TheVariants.{Line, Pair}
 use Rattle.gx_base.specs.Methods.{word_of}
 
 abbrev pub status_code : Status → ℕ

@@ -3,16 +3,15 @@
 ghost use Rattle.std.specs.Prelude.{◌≡◌, ◌≢◌, ◌↔◌, ◌≤◌, None, Err, IfSome, IfOk, IfErr, map, string_bytes, true, false};
 ghost use Rattle.gx_io.specs.Faults.{Counts};
 ghost use Rattle.gx_io.specs.Sinks.{AddsWhole, AddsFront};
-ghost use Rattle.galois_run.specs.CommandMeanings.{command_meaning};
-ghost use Rattle.galois_run.specs.Inputs.{inputs_of, OnInputs};
+ghost use Rattle.run_commands.specs.CommandMeanings.{command_meaning};
+ghost use Rattle.run_commands.specs.Inputs.{inputs_of, OnInputs};
 ghost use Rattle.galois_run.specs.RunTurns.{IsCaused, IsReported, IsWritten, IsReportCutShort, IsAnswer, Completes, writes, IsRefusal, ending};
-ghost use Rattle.galois_run.specs.Words.{plan_of_words, planned};
+ghost use Rattle.run_words.specs.Words.{plan_of_words, planned};
 
-use crate::commands::report_of;
-use crate::inputs::read_inputs;
 use crate::status::Status;
-use crate::words::{Plan, WordsFault, read_words};
 use gx_io::{Files, Sink, write_whole};
+use run_commands::{read_inputs, report_of};
+use run_words::{Plan, WordsFault, read_words};
 use std::alloc::Global;
 
 /// Does what the words ask for: reads the files that they name, and writes the command's report on them once that is

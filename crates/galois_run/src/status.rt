@@ -2,16 +2,9 @@ ghost use Rattle.std.specs.Prelude.{◌≡◌, IfOk, string_bytes};
 ghost use Rattle.galois_run.specs.Statuses.{status_code, text_of, what_text, pair_text, IsBare};
 
 use gx_base::{NoMemory, What, word_of};
+use gx_io::WholeRefuse;
+use run_commands::{RunFault, TableFault};
 use std::alloc::{AllocError, Global};
-
-/// What is wrong with a table of conditions.
-#[derive(Clone, Copy, Debug, PartialEq, Eq, Drop)]
-pub enum TableFault {
-    /// The line, from 1, at which its text is refused.
-    Line(u64),
-    /// The first pair of methods whose row isn't below the shipped one.
-    Pair { first: u32, second: u32 },
-}
 
 /// How a run of the program ended.
 #[derive(Clone, Copy, Debug, PartialEq, Eq, Drop)]
@@ -117,5 +110,38 @@ pub fn status_line(alloc: Global, status: &Status) -> Result<String, NoMemory>
         Status::TooLarge { what } => Ok(large_line(alloc, what)?),
         Status::BadTable { why } => Ok(fault_line(alloc, why)?),
         _ => Ok(String::from_str(alloc, bare_line(status))?),
+    }
+}
+
+impl From<RunFault> for Status {
+    ghost use Rattle.std.specs.Prelude.{◌≡◌};
+    ghost use Rattle.galois_run.specs.FaultStatuses.{status_of_fault};
+
+    ghost from_gives = { λ fault status. status ≡ status_of_fault fault };
+
+    fn from(fault: RunFault) -> Status {
+        match fault {
+            RunFault::BadTable { why } => Status::BadTable { why },
+            RunFault::BadInput { line } => Status::BadInput { line },
+            RunFault::TooLarge { what } => Status::TooLarge { what },
+            RunFault::Spent => Status::Spent,
+            RunFault::Kept => Status::Kept,
+            RunFault::NoMemory => Status::NoMemory,
+        }
+    }
+}
+
+impl From<WholeRefuse> for Status {
+    ghost use Rattle.std.specs.Prelude.{◌≡◌};
+    ghost use Rattle.galois_run.specs.FaultStatuses.{status_of_refusal};
+
+    ghost from_gives = { λ refusal status. status ≡ status_of_refusal refusal };
+
+    fn from(refusal: WholeRefuse) -> Status {
+        match refusal {
+            WholeRefuse::Failed => Status::ReadFault,
+            WholeRefuse::TooLong => Status::TooLarge { what: What::File },
+            WholeRefuse::NoMemory => Status::NoMemory,
+        }
     }
 }

@@ -2,29 +2,22 @@
 use Rattle.std.proofs.Common.{◌≡◌, ◌≢◌, inl, inr, ℕ, true, List, Option, Some, None, IfSome, IsSomeAnd, Result, Ok, Err, Vec, refl, ap, subst, arith}
 use Rattle.std.specs.Global.{Global}
 use Rattle.gx_base.specs.declared.inputs.What.{What}
-use Rattle.galois_run.specs.declared.run_faults.RunFault.{RunFault}
-use Rattle.galois_run.specs.declared.run_faults.RunFault.TheVariants.{BadTable, BadInput, TooLarge, Spent, Kept, NoMemory}
+use Rattle.run_commands.specs.declared.run_faults.RunFault.{RunFault}
+use Rattle.run_commands.specs.declared.run_faults.RunFault.TheVariants.{BadTable, BadInput, TooLarge, Spent, Kept, NoMemory}
 use Rattle.galois_run.specs.declared.status.Status.{Status}
-use Rattle.galois_run.specs.declared.status.TableFault.{TableFault}
+use Rattle.run_commands.specs.declared.run_faults.TableFault.{TableFault}
 use Rattle.galois_run.specs.declared.status.Status.TheVariants as statuses
-use Rattle.galois_run.specs.declared.words.Command.{Command}
-use Rattle.galois_run.specs.declared.words.Command.TheVariants.{Flow, Cluster, Classify, Help, Version}
-use Rattle.galois_run.specs.CommandMeanings.{meaning_by}
-use Rattle.galois_run.specs.Inputs.{Inputs, main_of, IsWithinLength, IsTooLong, AreWithinLength, HasTooLong}
-use Rattle.galois_run.specs.CommandMeaning.{CommandMeaning}
-use Rattle.galois_run.specs.commands.Flow.{flow_command}
-use Rattle.galois_run.specs.commands.Cluster.{cluster_command}
-use Rattle.cond_syntax.proofs.CallerLemmas.{no_fault_of_a_table}
+use Rattle.run_words.specs.declared.words.Command.{Command}
+use Rattle.run_commands.specs.CommandMeanings.{meaning_by}
+use Rattle.run_commands.specs.Inputs.{Inputs, IsWithinLength, IsTooLong, AreWithinLength, HasTooLong}
+use Rattle.run_commands.specs.CommandMeaning.{CommandMeaning}
 use Rattle.speculation.specs.Limits.{Limit}
 use Rattle.speculation.specs.Limits as limits
-use Rattle.cond_syntax.specs.TableTexts.{all_kinds}
-use Rattle.galois_run.specs.declared.options.RunOptions.{RunOptions}
-use Rattle.galois_run.specs.RunFaults.{fault_of_limit, status_of_fault, FaultsWhere, FaultAnswers}
+use Rattle.run_words.specs.declared.options.RunOptions.{RunOptions}
+use Rattle.run_commands.specs.RunFaults.{fault_of_limit, FaultsWhere, FaultAnswers}
+use Rattle.galois_run.specs.FaultStatuses.{status_of_fault}
 use Rattle.galois_run.specs.RunTurns.{ComesWhere, PassesLimit, status_of_limit, IsCaused, IsAnswer, Completes, writes}
-use Rattle.galois_run.proofs.meanings.ClusterLaws.{cluster_laws}
-use Rattle.galois_run.proofs.meanings.FlowLaws.{flow_laws}
-use Rattle.galois_run.proofs.meanings.LoopLaws.{read_or_faulty, read_or_large}
-use Rattle.galois_run.proofs.meanings.LoopLimits.{stays_or_passes}
+use Rattle.run_commands.proofs.CallerLemmas.{conditions_fault_is_told, line_is_told, limit_is_told, runs_on, no_bad_table, no_line, no_large, no_past}
 
 -- ---- where a report is made, there is no cause for a refusal
 
@@ -177,71 +170,15 @@ written_by_held meaning (Some inputs) status w caused = written_caused meaning i
 
 -- ---- what is told, whatever the files tell
 
-fault_of_conditions : (command : Command) (options : RunOptions) (inputs : Inputs) (why : TableFault) → (meaning_by command options).bad_table inputs why → (meaning_by command options).faults why
-fault_of_conditions Flow options inputs why bad = flow_laws.fault_is_told inputs.conditions why bad
-fault_of_conditions Cluster options inputs why bad = cluster_laws.fault_is_told inputs.conditions why bad
-fault_of_conditions Classify options inputs why bad = bad
-fault_of_conditions Help options inputs why bad = bad
-fault_of_conditions Version options inputs why bad = bad
-
-line_told : (command : Command) (options : RunOptions) (inputs : Inputs) (line : ℕ) → (meaning_by command options).malformed inputs line → (meaning_by command options).lines line
-line_told Flow options inputs line m = flow_laws.line_is_told (main_of inputs) line m.1
-line_told Cluster options inputs line m = cluster_laws.line_is_told (main_of inputs) line m.1
-line_told Classify options inputs line m = m.is_first.from_one
-line_told Help options inputs line m = m
-line_told Version options inputs line m = m
-
-limit_told : (command : Command) (options : RunOptions) (inputs : Inputs) (what : What) → (meaning_by command options).too_large inputs what → (meaning_by command options).limits what
-limit_told Flow options inputs what l = flow_laws.limit_is_told (main_of inputs) what l.1
-limit_told Cluster options inputs what l = cluster_laws.limit_is_told (main_of inputs) what l.1
-limit_told Classify options inputs what l = absurd l
-limit_told Help options inputs what l = l
-limit_told Version options inputs what l = l
-
-run_on_told : (command : Command) (options : RunOptions) (inputs : Inputs) (limit : Limit) → (meaning_by command options).passes inputs limit → (meaning_by command options).runs_on
-run_on_told Flow options inputs limit p = tt
-run_on_told Cluster options inputs limit p = tt
-run_on_told Classify options inputs limit p = p
-run_on_told Help options inputs limit p = p
-run_on_told Version options inputs limit p = p
-
 pub fault_told : (command : Command) (options : RunOptions) (inputs : Inputs) (fault : RunFault) → FaultAnswers (meaning_by command options) inputs (Err fault) → IsAnswer (meaning_by command options) (status_of_fault fault)
-fault_told command options inputs (BadTable why) answers = fault_of_conditions command options inputs why ((answers.bad_table why).only refl)
-fault_told command options inputs (BadInput line) answers = line_told command options inputs line ((answers.malformed line).only refl)
-fault_told command options inputs (TooLarge what) answers = inr (limit_told command options inputs what ((answers.too_large what).only refl))
-fault_told command options inputs Spent answers = run_on_told command options inputs limits.Spent ((answers.passes limits.Spent).only refl)
-fault_told command options inputs Kept answers = run_on_told command options inputs limits.Kept ((answers.passes limits.Kept).only refl)
+fault_told command options inputs (BadTable why) answers = conditions_fault_is_told command options inputs why ((answers.bad_table why).only refl)
+fault_told command options inputs (BadInput line) answers = line_is_told command options inputs line ((answers.malformed line).only refl)
+fault_told command options inputs (TooLarge what) answers = inr (limit_is_told command options inputs what ((answers.too_large what).only refl))
+fault_told command options inputs Spent answers = runs_on command options inputs limits.Spent ((answers.passes limits.Spent).only refl)
+fault_told command options inputs Kept answers = runs_on command options inputs limits.Kept ((answers.passes limits.Kept).only refl)
 fault_told command options inputs NoMemory answers = tt
 
 -- ---- where nothing is wrong with the inputs, none of these is told
-
-no_bad_table : (command : Command) (options : RunOptions) (inputs : Inputs) (why : TableFault) → (meaning_by command options).ends inputs → (meaning_by command options).bad_table inputs why → ⊥
-no_bad_table Flow options inputs why e bad = e.are_accepted why bad
-no_bad_table Cluster options inputs why e bad = e.are_accepted why bad
-no_bad_table Classify options inputs why e bad = bad
-no_bad_table Help options inputs why e bad = bad
-no_bad_table Version options inputs why e bad = bad
-
-no_line : (command : Command) (options : RunOptions) (inputs : Inputs) (line : ℕ) → (meaning_by command options).ends inputs → (meaning_by command options).malformed inputs line → ⊥
-no_line Flow options inputs line e m = read_or_faulty flow_command flow_laws (main_of inputs) e.input line e.is_read m.1
-no_line Cluster options inputs line e m = read_or_faulty cluster_command cluster_laws (main_of inputs) e.input line e.is_read m.1
-no_line Classify options inputs line e m = no_fault_of_a_table all_kinds _ e.kind e.rows line m.fault e.is_table m.is_first
-no_line Help options inputs line e m = m
-no_line Version options inputs line e m = m
-
-no_large : (command : Command) (options : RunOptions) (inputs : Inputs) (what : What) → (meaning_by command options).ends inputs → (meaning_by command options).too_large inputs what → ⊥
-no_large Flow options inputs what e l = read_or_large flow_command flow_laws (main_of inputs) e.input what e.is_read l.1
-no_large Cluster options inputs what e l = read_or_large cluster_command cluster_laws (main_of inputs) e.input what e.is_read l.1
-no_large Classify options inputs what e l = l
-no_large Help options inputs what e l = l
-no_large Version options inputs what e l = l
-
-no_past : (command : Command) (options : RunOptions) (inputs : Inputs) (limit : Limit) → (meaning_by command options).ends inputs → (meaning_by command options).passes inputs limit → ⊥
-no_past Flow options inputs limit e p = stays_or_passes flow_command flow_laws options inputs.conditions (main_of inputs) limit e p
-no_past Cluster options inputs limit e p = stays_or_passes cluster_command cluster_laws options inputs.conditions (main_of inputs) limit e p
-no_past Classify options inputs limit e p = p
-no_past Help options inputs limit e p = p
-no_past Version options inputs limit e p = p
 
 completes : (command : Command) (options : RunOptions) (inputs : Inputs) (status : Status) → status ≢ statuses.Usage → IsCaused (meaning_by command options) inputs status
     → IsAnswer (meaning_by command options) status → Completes (meaning_by command options) inputs status

@@ -1,6 +1,6 @@
 use Rattle.std.proofs.lemmas.Result.{err_from_is_err_and}
-use Rattle.galois_run.specs.Inputs.{inputs_in, inputs_of}
-use Rattle.galois_run.specs.Words.{planned}
+use Rattle.run_commands.specs.Inputs.{inputs_in, inputs_of}
+use Rattle.run_words.specs.Words.{planned}
 use Rattle.galois_run.proofs.refusals.Refusals.{report_by_held, refusal_by_held, fault_told}
 use Rattle.galois_run.proofs.run.make_report.Goals as goal
 

@@ -1,6 +1,6 @@
-use Rattle.galois_run.specs.CommandMeanings.{command_meaning}
-use Rattle.galois_run.specs.Inputs.{inputs_of}
-use Rattle.galois_run.specs.Words.{planned}
+use Rattle.run_commands.specs.CommandMeanings.{command_meaning}
+use Rattle.run_commands.specs.Inputs.{inputs_of}
+use Rattle.run_words.specs.Words.{planned}
 use Rattle.galois_run.proofs.refusals.Refusals.{written_by_held}
 use Rattle.galois_run.proofs.run.run_command.Goals as goal
 

@@ -1,8 +1,8 @@
 use Rattle.std.proofs.Common.{sym, subst}
-use Rattle.galois_run.specs.CommandMeanings.{command_meaning}
-use Rattle.galois_run.specs.Inputs.{inputs_of, OnInputs}
+use Rattle.run_commands.specs.CommandMeanings.{command_meaning}
+use Rattle.run_commands.specs.Inputs.{inputs_of, OnInputs}
 use Rattle.galois_run.specs.RunTurns.{Completes}
-use Rattle.galois_run.specs.Words.{planned}
+use Rattle.run_words.specs.Words.{planned}
 use Rattle.galois_run.proofs.refusals.Refusals.{completes_by_held}
 use Rattle.galois_run.proofs.run.run_turns.Goals as goal
 

@@ -1,0 +1,3 @@
+pub mod meanings
+pub mod gate_tables
+pub mod CallerLemmas

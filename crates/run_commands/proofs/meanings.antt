@@ -1,0 +1,14 @@
+pub mod RunTables
+pub mod ModeTexts
+pub mod ClassifyAnswers
+pub mod LimitedRuns
+pub mod LoopRooms
+pub mod LoopPlays
+pub mod LoopLaws
+pub mod LoopLimits
+pub mod LoopAnswers
+pub mod FlowLaws
+pub mod ConditionTexts
+pub mod ClusterTables
+pub mod ClusterLaws
+pub mod CommandLaws

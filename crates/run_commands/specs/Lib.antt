@@ -1,0 +1,9 @@
+pub mod RunTables
+pub mod Inputs
+pub mod CommandMeaning
+pub mod LoopRuns
+pub mod LoopCommands
+pub mod LoopRooms
+pub mod commands
+pub mod CommandMeanings
+pub mod RunFaults

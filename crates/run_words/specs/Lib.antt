@@ -1,0 +1,2 @@
+pub mod RunOptions
+pub mod Words
