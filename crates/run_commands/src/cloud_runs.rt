@@ -16,7 +16,6 @@ ghost use Rattle.run_commands.specs.commands.Cluster.{AreOfFile, cluster_loop, t
 
 use crate::cloud_tables::CloudTables;
 use crate::loop_runs::{gate_over, run_values, taken_out, with_turns};
-use run_words::RunOptions;
 use crate::run_faults::RunFault;
 use clustering::{Chain, Cloud, report, start};
 use commit_book::Book;
@@ -24,6 +23,7 @@ use gate_core::Gate;
 use gx_base::{Kind, NoMemory, Spot};
 use iterate::Played;
 use rooms::Value;
+use run_words::RunOptions;
 use std::alloc::Global;
 use table_choice::AnyScreen;
 

@@ -14,19 +14,15 @@ ghost use Rattle.run_words.specs.Words.{planned};
 
 use crate::inputs::InputFiles;
 use crate::run_faults::RunFault;
-use run_words::{Command, Plan};
 use about::{report_help, report_version};
 use classify::report_classes;
 use cluster::report_cluster;
 use flow::report_flow;
+use run_words::{Command, Plan};
 use std::alloc::Global;
 
 /// The planned command's report on the inputs.
-pub fn report_of(
-    alloc: Global,
-    plan: &Plan,
-    inputs: &InputFiles,
-) -> Result<Vec<u8>, RunFault>
+pub fn report_of(alloc: Global, plan: &Plan, inputs: &InputFiles) -> Result<Vec<u8>, RunFault>
     requires { 1 ≤ (planned plan.now).options.workers }
     ensures { FaultAnswers (command_meaning (planned plan.now)) (inputs_in inputs.now) result }
 {

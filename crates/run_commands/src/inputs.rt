@@ -5,8 +5,8 @@ ghost use Rattle.gx_io.specs.Faults.{Counts};
 ghost use Rattle.run_commands.specs.Inputs.{main_of, inputs_in, inputs_of, held_under, IsWithinLength, IsTooLong, AreWithinLength, HasTooLong};
 ghost use Rattle.run_words.specs.Words.{planned};
 
-use run_words::Plan;
 use gx_io::{Files, WholeRefuse, read_whole};
+use run_words::Plan;
 use std::alloc::Global;
 
 /// How many bytes a file may have.

@@ -18,13 +18,13 @@ ghost use Rattle.run_commands.specs.LoopRooms.{states_in, last_book};
 ghost use Rattle.run_commands.specs.RunFaults.{fault_of_limit};
 ghost use Rattle.run_commands.specs.RunTables.{ServesGates};
 
-use run_words::RunOptions;
 use crate::run_faults::RunFault;
 use commit_book::{Book, Operator};
 use gate_core::Gate;
 use gx_base::{Kind, NoMemory, SeqType, Table};
 use iterate::{Played, Turn, play};
 use rooms::{Value, VecRooms};
+use run_words::RunOptions;
 use schedules::schedule;
 use std::alloc::Global;
 use table_choice::{AnyScreen, screen_for};

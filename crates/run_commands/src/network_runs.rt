@@ -16,7 +16,6 @@ ghost use Rattle.run_commands.specs.RunTables.{ServesGates};
 ghost use Rattle.run_commands.specs.commands.Flow.{network_loop, shard_tables};
 
 use crate::loop_runs::{gate_over, run_values, taken_out, with_turns};
-use run_words::RunOptions;
 use crate::run_faults::RunFault;
 use commit_book::Book;
 use flow_graph::FlowShard;
@@ -24,6 +23,7 @@ use gx_base::{Kind, NoMemory, Table};
 use iterate::Played;
 use preflow_push::{Discharge, Network, report, start};
 use rooms::Value;
+use run_words::RunOptions;
 use std::alloc::Global;
 use table_choice::AnyScreen;
 

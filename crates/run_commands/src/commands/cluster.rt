@@ -18,10 +18,10 @@ ghost use Rattle.run_commands.specs.declared.run_faults.RunFault.TheVariants as 
 use crate::cloud_runs::{report_points, run_points};
 use crate::cloud_tables::{CloudTables, cloud_tables};
 use crate::inputs::InputFiles;
-use run_words::RunOptions;
 use crate::run_faults::RunFault;
 use clustering::read_points;
 use gx_base::Spot;
+use run_words::RunOptions;
 use std::alloc::Global;
 
 /// The report of `cluster` on the inputs.

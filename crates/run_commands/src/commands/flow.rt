@@ -19,13 +19,13 @@ ghost use Rattle.run_commands.specs.declared.run_faults.RunFault.TheVariants as 
 
 use crate::inputs::InputFiles;
 use crate::network_runs::{report_played, run_network};
-use run_words::RunOptions;
 use crate::run_faults::RunFault;
 use crate::run_tables::run_table;
 use flow_graph::FlowShard;
 use gx_base::{Choice, Kind, Table};
 use kind_tables::laws::only_precise_domains_are_general;
 use preflow_push::{Network, read_max};
+use run_words::RunOptions;
 use std::alloc::Global;
 
 /// The report of `flow` on the inputs.
