@@ -29,6 +29,10 @@ abbrev pub gate_of : {T S : Type 0} → Value T S → GateView
 gate_of (Object gate) = gate
 gate_of (Book book) = no_gate
 
+-- a value is a gate
+abbrev pub IsGate : {T S : Type 0} → Value T S → Type 0
+IsGate value = value ≡ Object (gate_of value)
+
 abbrev pub book_of : {T S : Type 0} → Value T S → BookView
 book_of (Object gate) = new_book false []
 book_of (Book book) = book

@@ -1,24 +1,47 @@
-ghost use Rattle.std.specs.Prelude.{◌≡◌, ◌∷◌, ◌++◌, ◌<◌, [], false, Some, vec_len, vec_capacity};
+ghost use Rattle.std.specs.Prelude.{◌≡◌, ◌∷◌, ◌++◌, ◌<◌, [], false, Some, IfOk, IfErr, vec_len, vec_capacity};
 ghost use Rattle.gx_base.specs.declared.acts.Step.{Step};
+ghost use Rattle.gate_core.specs.CallAnswers.{GateRefusalFits, IsAdmitted};
 ghost use Rattle.commit_book.specs.SerialRuns.{operator_of};
 ghost use Rattle.iterate.specs.Bodies.{IsAtWork, HasAsked, IsNoted};
-ghost use Rattle.iterate.specs.Places.{IsFit};
+ghost use Rattle.iterate.specs.Places.{gate_of, IsFit, IsGate};
 ghost use Rattle.iterate.specs.SessionViews.{core_of, view_of};
 ghost use Rattle.iterate.specs.Turns.{TakesTurn};
 
-use crate::entering::{enter_gate, leave_gate};
+use crate::entering::{enter_value, leave_value};
 use crate::events::{Event, Stop};
 use crate::session::{Phase, Session};
 use commit_book::Operator;
 use gate_core::{GateRefuse, Screen};
-use gx_base::{Call, NoMemory, Reply, Room, SeqType, Step};
+use gx_base::{Call, Item, NoMemory, Reply, Room, SeqType, Step};
 use rooms::{Rooms, Value};
 use std::mem;
+
+// Does a call on the gate that a value is, unless an uncommitted entry is in its way. It stands apart, so that its answer is
+// written where it is wanted: where it was inlined the answer was moved on, and it is as long as what it tells of a conflict.
+#[inline(never)]
+fn call_in<T: SeqType, S: Screen<T>>(
+    value: &mut Value<T, S>,
+    worker: u32,
+    iter: u64,
+    item: Item,
+    call: Call,
+) -> Result<Reply, GateRefuse>
+    requires { IsGate value.old }
+    ensures gate { IsGate value.new }
+    ensures mark { (gate_of value.new).mark ≡ (gate_of value.old).mark }
+    ensures ok { IfOk result (λ reply. IsAdmitted (gate_of value.old) (gate_of value.new) worker iter item call reply) }
+    ensures err { IfErr result (λ refuse. GateRefusalFits (gate_of value.old) (gate_of value.new) worker iter item call refuse) }
+{
+    let Value::Object(gate) = value else {
+        return Err(GateRefuse::NoMemory);
+    };
+    gate.call(worker, iter, item, call)
+}
 
 impl<O: Operator> Session<O> {
     /// A running session asks its body on. A call goes to the gate of its room; at the end of the body it goes on as
     /// finished.
-    #[inline(always)]
+    #[inline(never)]
     pub(crate) fn go<R: Rooms<Value<T, S>>, T: SeqType, S: Screen<T>>(
         &mut self,
         rooms: &mut R,
@@ -38,7 +61,7 @@ impl<O: Operator> Session<O> {
     }
 
     // Asks a call of the gate of its room. The place in the log is reserved before, so that nothing fails after it.
-    #[inline(always)]
+    #[inline(never)]
     fn call<R: Rooms<Value<T, S>>, T: SeqType, S: Screen<T>>(
         &mut self,
         rooms: &mut R,
@@ -55,25 +78,21 @@ impl<O: Operator> Session<O> {
         if self.log.reserve(1).is_err() {
             return self.stop(rooms, Stop::NoMemory);
         }
-        match enter_gate(rooms, room) {
-            None => Ok(Event::Busy),
-            Some(mut gate) => match gate.call(self.worker, self.iter, self.item, call) {
-                Ok(reply) => {
-                    leave_gate(rooms, room, gate);
-                    self.note(room, call, reply);
-                    Ok(Event::Call { room, call, reply })
-                }
-                Err(refuse) => {
-                    leave_gate(rooms, room, gate);
-                    match refuse {
-                        GateRefuse::Conflict(told) => {
-                            self.give_up(rooms);
-                            Ok(Event::Conflict { room, told })
-                        }
-                        GateRefuse::NoMemory => self.stop(rooms, Stop::NoMemory),
-                    }
-                }
-            },
+        let Some(mut value) = enter_value(rooms, room) else {
+            return Ok(Event::Busy);
+        };
+        let answer = call_in(&mut value, self.worker, self.iter, self.item, call);
+        leave_value(rooms, room, value);
+        match answer {
+            Ok(reply) => {
+                self.note(room, call, reply);
+                Ok(Event::Call { room, call, reply })
+            }
+            Err(GateRefuse::Conflict(told)) => {
+                self.give_up(rooms);
+                Ok(Event::Conflict { room, told })
+            }
+            Err(GateRefuse::NoMemory) => self.stop(rooms, Stop::NoMemory),
         }
     }
 

@@ -1,7 +1,8 @@
 ghost use Rattle.std.specs.Prelude.{◌≡◌, ◌<◌, true, false, IfSome, IfNone};
 ghost use Rattle.rooms.specs.RoomsViews.{is_held, entered, left};
-ghost use Rattle.rooms.specs.HandedOut.{IsHandedOut, IsLost};
+ghost use Rattle.rooms.specs.HandedOut.{IsHandedOut, IsLost, MayHaveMark};
 ghost use Rattle.rooms.specs.Values.{tells};
+ghost use Rattle.iterate.specs.Places.{gate_of, IsGate};
 ghost use Rattle.iterate.specs.Visits.{MayLeaveGate, MayLeaveBook};
 ghost use Rattle.rooms.specs.declared.values.Value.TheVariants as values;
 
@@ -42,6 +43,40 @@ pub fn leave_gate<R: Rooms<Value<T, S>>, T: SeqType, S: Screen<T>>(
     ensures loan { R.loan rooms.new ≡ R.loan rooms.old }
 {
     rooms.leave(room, Value::Object(gate));
+}
+
+/// The value of a gate's room, unless another caller holds the room. The gate stays in it, since what is taken out is moved.
+#[inline(always)]
+pub fn enter_value<R: Rooms<Value<T, S>>, T: SeqType, S: Screen<T>>(
+    rooms: &mut R,
+    room: Room,
+) -> Option<Value<T, S>>
+    requires in_range { room < (R.view rooms.old).book }
+    requires free { is_held (R.view rooms.old) room ≡ false }
+    ensures is_gate { IfSome result IsGate }
+    ensures gate { IfSome result (λ value. IsHandedOut tells (R.view rooms.old) room value) }
+    ensures some { IfSome result (λ value. R.view rooms.new ≡ entered tells (R.view rooms.old) room value) }
+    ensures none { IfNone result (IsLost (R.view rooms.old) (R.view rooms.new) room) }
+    ensures loan { R.loan rooms.new ≡ R.loan rooms.old }
+{
+    rooms.try_enter(room)
+}
+
+/// Puts a gate's value in its room.
+#[inline(always)]
+pub fn leave_value<R: Rooms<Value<T, S>>, T: SeqType, S: Screen<T>>(
+    rooms: &mut R,
+    room: Room,
+    value: Value<T, S>,
+)
+    requires gate { IsGate value }
+    requires in_range { room < (R.view rooms.old).book }
+    requires held { is_held (R.view rooms.old) room ≡ true }
+    requires mark { MayHaveMark (R.view rooms.old) room (gate_of value).mark }
+    ensures view { R.view rooms.new ≡ left tells (R.view rooms.old) room value }
+    ensures loan { R.loan rooms.new ≡ R.loan rooms.old }
+{
+    rooms.leave(room, value);
 }
 
 fn book_room<R: Rooms<Value<T, S>>, T: SeqType, S: Screen<T>>(rooms: &R) -> Room

@@ -94,7 +94,9 @@ impl<V: Vacant> VecRooms<V> {
         ensures { self.new ≡ record self.old { moves = leaves room value ∷ self.old.moves } }
     {
         self.history = self.history.and_left(room, &value);
-        put_at(&mut self.values, room, value);
+        let vacant = exchange(&mut self.values, room, value);
+        // It has no memory, and to destroy it would be to move it out first.
+        mem::forget(vacant);
     }
 }
 
@@ -106,14 +108,6 @@ fn exchange<V: Drop>(values: &mut Vec<V>, room: Room, value: V) -> V
     ensures put { values.new.items ≡ slice_set values.old.items room value }
 {
     mem::replace(&mut values[room as usize], value)
-}
-
-#[inline(always)]
-fn put_at<V: Drop>(values: &mut Vec<V>, room: Room, value: V)
-    requires { room < length values.old.items }
-    ensures { values.new.items ≡ slice_set values.old.items room value }
-{
-    values[room as usize] = value;
 }
 
 impl<V: Vacant> Rooms<V> for VecRooms<V> {
