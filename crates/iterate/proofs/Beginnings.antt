@@ -33,11 +33,11 @@ use Rattle.rooms.specs.Values.{tells}
 use Rattle.rooms.specs.Visits.{AreTold, everyone}
 use Rattle.rooms.specs.declared.values.Value.{Value}
 use Rattle.rooms.specs.declared.values.Value.TheVariants.{Object, Book}
-use Rattle.iterate.specs.Places.{no_gate, gate_of, book_of, IfTold, IsLogOf}
-use Rattle.iterate.specs.declared.session.Session.{Session as CodeSession}
+use Rattle.sessions.specs.Places.{no_gate, gate_of, book_of, IfTold, IsLogOf}
+use Rattle.sessions.specs.declared.session.Session.{Session as CodeSession}
 use Rattle.iterate.specs.PlayedTurns.{machine_of, session_in, sessions_of, IsLawfulValue, MayTurn, MayAllTurn, AreBegun, IsPlayedRun}
 use Rattle.iterate.specs.Plays.{gate_in, book_in, begun_machine, IsNewGateIn, AreNewFor, IsPlayed}
-use Rattle.iterate.specs.SessionViews.{Rests, SessionView, view_of, begun_view}
+use Rattle.sessions.specs.SessionViews.{Rests, SessionView, view_of, begun_view}
 
 -- ---- a ready set by rising item is in order
 

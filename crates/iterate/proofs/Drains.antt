@@ -13,11 +13,11 @@ use Rattle.speculation.specs.Sessions.{Session, Phase, Idle, Running, Finished, 
 use Rattle.rooms.proofs.CallerLemmas.{put_same, put_itself}
 use Rattle.rooms.specs.RoomsViews.{RoomsView}
 use Rattle.rooms.specs.declared.values.Value.{Value}
-use Rattle.iterate.specs.Places.{IsBody, IsFitIn}
-use Rattle.iterate.specs.PlayedTurns.{MayTurn, IsTurn, IsStoppedTurn, left_off, with_left_off, with_undo}
-use Rattle.iterate.specs.Turns.{may_stop_at}
-use Rattle.iterate.specs.declared.events.Stop.{Stop}
-use Rattle.iterate.specs.SessionViews.{OpenCommit, SessionView}
+use Rattle.sessions.specs.Places.{IsBody, IsFitIn}
+use Rattle.iterate.specs.PlayedTurns.{MayTurn, IsTurn, IsStoppedTurn, with_undo}
+use Rattle.sessions.specs.Turns.{may_stop_at}
+use Rattle.sessions.specs.declared.events.Stop.{Stop}
+use Rattle.sessions.specs.SessionViews.{OpenCommit, SessionView, left_off, with_left_off}
 
 -- ---- an iteration that leaves off may take turns
 

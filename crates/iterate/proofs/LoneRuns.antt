@@ -7,10 +7,10 @@ use Rattle.speculation.specs.Limits.{Limit, limit_in, or_later, limit_of_alone}
 use Rattle.speculation.specs.Machines.{Machine, turn}
 use Rattle.speculation.specs.Premises.{AloneAsk}
 use Rattle.speculation.specs.ScheduledRuns.{is_empty, lone_run}
-use Rattle.iterate.specs.declared.events.Stop.{Stop}
+use Rattle.sessions.specs.declared.events.Stop.{Stop}
 use Rattle.iterate.specs.PlayedTurns.{IsTurn, IsStoppedTurn, IsEmptiedAlone}
 use Rattle.iterate.specs.Plays.{stop_of}
-use Rattle.iterate.specs.Turns.{IsCause}
+use Rattle.sessions.specs.Turns.{IsCause}
 use Rattle.iterate.proofs.Schedules.{stop_cause}
 
 -- so many turns lead from the first machine to the second

@@ -9,11 +9,11 @@ use Rattle.speculation.specs.Machines.{place_of, turn_at}
 use Rattle.speculation.specs.Premises.{ScheduledAsk}
 use Rattle.speculation.specs.ScheduledRuns.{is_empty, Run, then_turned, scheduled, AllBelow}
 use Rattle.speculation.proofs.Putting.{no_bool}
-use Rattle.iterate.specs.declared.events.Stop.{Stop}
-use Rattle.iterate.specs.declared.events.Stop.TheVariants as stops
+use Rattle.sessions.specs.declared.events.Stop.{Stop}
+use Rattle.sessions.specs.declared.events.Stop.TheVariants as stops
 use Rattle.iterate.specs.PlayedTurns.{IsTracedTurn, IsStoppedTurn}
 use Rattle.iterate.specs.Plays.{stop_of}
-use Rattle.iterate.specs.Turns.{IsCause}
+use Rattle.sessions.specs.Turns.{IsCause}
 
 -- the schedule leads from the first run as the rest of it does from the second
 pub record LeadsOn (op : Operator) (first : Run) (schedule : List ℕ) (now : Run) (rest : List ℕ) : Type 0 where

@@ -8,9 +8,9 @@ use Rattle.speculation.proofs.Putting.{no_bool, same_number, numbers_equal}
 use Rattle.rooms.specs.RoomsViews.{RoomsView, is_held}
 use Rattle.rooms.specs.declared.values.Value.{Value}
 use Rattle.rooms.proofs.CallerLemmas.{get_set, get_other, numbers_differ}
-use Rattle.iterate.specs.declared.session.Session.{Session as CodeSession}
+use Rattle.sessions.specs.declared.session.Session.{Session as CodeSession}
 use Rattle.iterate.specs.PlayedTurns.{session_in, sessions_of, MayTurn, MayAllTurn}
-use Rattle.iterate.specs.SessionViews.{Rests, view_of}
+use Rattle.sessions.specs.SessionViews.{Rests, view_of}
 use Rattle.iterate.proofs.SoleTurns.{free_of}
 
 turned_round : (a b : ℕ) (c : Bool) → (a == b) ≡ false → (b == a) ≡ c → (b == a) ≡ false

@@ -24,14 +24,14 @@ use Rattle.rooms.specs.Values.{tells}
 use Rattle.rooms.specs.Visits.{AreTold}
 use Rattle.rooms.specs.declared.values.Value.{Value}
 use Rattle.rooms.specs.declared.values.Value.TheVariants.{Object, Book}
-use Rattle.iterate.specs.declared.events.Event.{Event as CodeEvent}
-use Rattle.iterate.specs.declared.events.Stop.{Stop}
-use Rattle.iterate.specs.Places.{IsLogIn, IsFit, IsFitIn, no_gate, gate_of, book_of, IfTold, IsBookIn, StandsOn}
+use Rattle.sessions.specs.declared.events.Event.{Event as CodeEvent}
+use Rattle.sessions.specs.declared.events.Stop.{Stop}
+use Rattle.sessions.specs.Places.{IsLogIn, IsFit, IsFitIn, no_gate, gate_of, book_of, IfTold, IsBookIn, StandsOn}
 use Rattle.iterate.specs.PlayedTurns.{machine_of, MayTurn, TellsCall, TurnAnswers}
 use Rattle.iterate.specs.Plays.{gate_in, book_in}
-use Rattle.iterate.specs.SessionViews.{OpenCommit, SessionView}
-use Rattle.iterate.specs.Turns.{event_of, IsLostIn, may_stop_at, Answers, OthersStay, AreSameRooms, HasTurned}
-use Rattle.iterate.proofs.Logs.{log_shown, log_hidden}
+use Rattle.sessions.specs.SessionViews.{OpenCommit, SessionView}
+use Rattle.sessions.specs.Turns.{event_of, IsLostIn, may_stop_at, Answers, OthersStay, AreSameRooms, HasTurned}
+use Rattle.sessions.proofs.CallerLemmas.{log_shown, log_hidden}
 
 -- ---- what is asked next
 

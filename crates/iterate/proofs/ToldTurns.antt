@@ -7,12 +7,12 @@ use Rattle.speculation.specs.Events.{then_turn}
 use Rattle.speculation.specs.Machines.{Machine, Place, place_of, turn_at}
 use Rattle.speculation.specs.ScheduledRuns.{is_empty, Run, begun, then_turned, scheduled}
 use Rattle.speculation.proofs.Putting.{no_bool}
-use Rattle.iterate.specs.declared.events.Event.{Event as CodeEvent}
-use Rattle.iterate.specs.declared.events.Event.TheVariants as code
-use Rattle.iterate.specs.declared.events.Turn.{Turn as CodeTurn}
+use Rattle.sessions.specs.declared.events.Event.{Event as CodeEvent}
+use Rattle.sessions.specs.declared.events.Event.TheVariants as code
+use Rattle.sessions.specs.declared.events.Turn.{Turn as CodeTurn}
 use Rattle.iterate.specs.PlayedTurns.{IsTracedTurn, IsToldTurn, AddsNoConflict}
 use Rattle.iterate.specs.Plays.{ConflictsTellRight}
-use Rattle.iterate.specs.Turns.{event_of, is_conflict, TellsRight}
+use Rattle.sessions.specs.Turns.{event_of, is_conflict, TellsRight}
 use Rattle.iterate.proofs.Beginnings.{place_by}
 
 -- ---- turns that are no conflicts

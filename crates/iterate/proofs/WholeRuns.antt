@@ -8,8 +8,8 @@ use Rattle.speculation.specs.Limits as limit
 use Rattle.speculation.specs.Machines.{Machine, turn}
 use Rattle.speculation.specs.Premises.{ScheduledAsk, AloneAsk}
 use Rattle.speculation.specs.ScheduledRuns.{is_empty, Run, begun, scheduled, drain, lone_run, drained, played}
-use Rattle.iterate.specs.declared.events.Stop.{Stop}
-use Rattle.iterate.specs.declared.events.Stop.TheVariants as stops
+use Rattle.sessions.specs.declared.events.Stop.{Stop}
+use Rattle.sessions.specs.declared.events.Stop.TheVariants as stops
 use Rattle.iterate.specs.PlayedTurns.{IsEmptiedAlone, IsPlayedRun}
 use Rattle.iterate.specs.Plays.{stop_of, PassesFirst}
 use Rattle.iterate.proofs.LoneRuns.{limit_more, none_after}

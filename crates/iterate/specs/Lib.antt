@@ -1,12 +1,2 @@
-pub mod RoomLists
-pub mod SessionViews
-pub mod Needs
-pub mod Places
-pub mod Visits
-pub mod Bodies
-pub mod SharedTurns
-pub mod TurnMoves
-pub mod Turns
-pub mod EventViews
 pub mod Plays
 pub mod PlayedTurns

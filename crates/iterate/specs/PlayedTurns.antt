@@ -10,19 +10,19 @@ use Rattle.speculation.specs.Limits.{limit_in, limit_of_alone, limit_of_played}
 use Rattle.speculation.specs.Machines.{Machine, place_of, turn_at, turn}
 use Rattle.speculation.specs.Premises.{AsksCall, AloneAsk, AsksCalls}
 use Rattle.speculation.specs.ScheduledRuns.{is_empty, Run, lone_run, played}
-use Rattle.speculation.specs.Sessions.{Session, Phase, Idle, Running, Finished, Undoing}
+use Rattle.speculation.specs.Sessions.{Session}
 use Rattle.rooms.specs.RoomsViews.{RoomsView}
 use Rattle.rooms.specs.declared.values.Value.{Value}
 use Rattle.rooms.specs.declared.values.Value.TheVariants.{Object, Book}
-use Rattle.iterate.specs.declared.events.Event.{Event as CodeEvent}
-use Rattle.iterate.specs.declared.events.Stop.{Stop}
-use Rattle.iterate.specs.declared.events.Turn.{Turn as CodeTurn}
-use Rattle.iterate.specs.declared.session.Session.{Session as CodeSession}
-use Rattle.iterate.specs.EventViews.{turns_of}
-use Rattle.iterate.specs.Places.{IsFit}
+use Rattle.sessions.specs.declared.events.Event.{Event as CodeEvent}
+use Rattle.sessions.specs.declared.events.Stop.{Stop}
+use Rattle.sessions.specs.declared.events.Turn.{Turn as CodeTurn}
+use Rattle.sessions.specs.declared.session.Session.{Session as CodeSession}
+use Rattle.sessions.specs.EventViews.{turns_of}
+use Rattle.sessions.specs.Places.{IsFit}
 use Rattle.iterate.specs.Plays.{gate_in, book_in}
-use Rattle.iterate.specs.SessionViews.{Rests, SessionView, view_of, begun_view}
-use Rattle.iterate.specs.Turns.{event_of, is_conflict, TellsRight, IsCause, may_stop_at}
+use Rattle.sessions.specs.SessionViews.{Rests, SessionView, view_of, begun_view}
+use Rattle.sessions.specs.Turns.{event_of, is_conflict, TellsRight, IsCause, may_stop_at}
 
 -- ---- machines
 
@@ -115,16 +115,6 @@ pub record IsPlayedRun (op : Operator) (before : Machine) (workers : ℕ) (sched
   pub ends : is_empty last.machine.book.ready ≡ true
   pub run_is : last ≡ played op before workers schedule turns
   pub asks : AsksCalls op before workers schedule turns
-
--- an iteration that isn't over undoes
-abbrev pub left_off : Phase → Phase
-left_off Idle = Idle
-left_off (Running plan) = Undoing
-left_off Finished = Undoing
-left_off Undoing = Undoing
-
-abbrev pub with_left_off : Session → Session
-with_left_off s = record s { phase = left_off s.phase }
 
 -- the turns with one more, where that is an undo
 abbrev pub with_undo : List Turn → ℕ → Event → List Turn

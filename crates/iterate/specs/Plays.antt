@@ -12,12 +12,12 @@ use Rattle.speculation.specs.ScheduledRuns.{is_empty, scheduled, played}
 use Rattle.speculation.specs.ScheduledRuns.{begun as no_turn}
 use Rattle.rooms.specs.declared.values.Value.{Value}
 use Rattle.rooms.specs.declared.values.Value.TheVariants.{Object, Book}
-use Rattle.iterate.specs.Places.{no_gate, gate_of, book_of}
-use Rattle.iterate.specs.SessionViews.{begun_view}
-use Rattle.iterate.specs.Turns.{TellsRight}
-use Rattle.iterate.specs.declared.events.Stop.{Stop}
-use Rattle.iterate.specs.declared.events.Stop.TheVariants as stops
-use Rattle.iterate.specs.declared.events.Turn.{Turn as CodeTurn}
+use Rattle.sessions.specs.Places.{no_gate, gate_of, book_of}
+use Rattle.sessions.specs.SessionViews.{begun_view}
+use Rattle.sessions.specs.Turns.{TellsRight}
+use Rattle.sessions.specs.declared.events.Stop.{Stop}
+use Rattle.sessions.specs.declared.events.Stop.TheVariants as stops
+use Rattle.sessions.specs.declared.events.Turn.{Turn as CodeTurn}
 
 -- ---- the machine at the start
 

@@ -4,18 +4,18 @@ ghost use Rattle.gx_base.specs.Replays.{put};
 ghost use Rattle.speculation.specs.ScheduledRuns.{drain as drained, drain_step as step_drained, drain_worker as worker_drained};
 ghost use Rattle.rooms.specs.Values.{tells};
 ghost use Rattle.rooms.specs.Visits.{view_of as rooms_view};
-ghost use Rattle.iterate.specs.PlayedTurns.{sessions_of, run_of, MayAllTurn, AddsNoConflict, left_off, with_left_off, with_undo};
-ghost use Rattle.iterate.specs.EventViews.{turns_of};
-ghost use Rattle.iterate.specs.Turns.{event_of};
-ghost use Rattle.iterate.specs.declared.events.Stop.TheVariants as stops;
+ghost use Rattle.iterate.specs.PlayedTurns.{sessions_of, run_of, MayAllTurn, AddsNoConflict, with_undo};
+ghost use Rattle.sessions.specs.SessionViews.{left_off, with_left_off};
+ghost use Rattle.sessions.specs.EventViews.{turns_of};
+ghost use Rattle.sessions.specs.Turns.{event_of};
+ghost use Rattle.sessions.specs.declared.events.Stop.TheVariants as stops;
 
-use crate::events::{Event, Stop, Turn};
-use crate::session::Session;
 use crate::sole_turns::{note, take_turn};
 use commit_book::Operator;
 use gate_core::Screen;
 use gx_base::SeqType;
 use rooms::{Value, VecRooms};
+use sessions::{Event, Session, Stop, Turn};
 
 // The trace with one more turn, where that is an undo.
 fn note_undo(trace: &mut Vec<Turn>, worker: u32, event: Event) -> Result<(), Stop>

@@ -1,36 +1,16 @@
-//! Sessions: workers that run the bodies of work items at once, over rooms that hold gates and the book.
-//!
-//! `Session::new(alloc, worker)` makes one that is idle. Each `session.turn(&mut rooms, &op)` is one event of the
-//! speculative machine, on the gates and the book that it was handed out, and leaves what that event makes of them. Where the
-//! rooms tell their values, all others are those that they tell. Where a room that it needs is held by another caller, the
-//! turn is `Busy` or is cut short there. A turn never waits, and one that takes calls back or releases them takes no memory.
-//! After a commit `session.pushed()` has its pushes.
+//! Whole runs by virtual workers.
 //!
 //! `play(alloc, rooms, &op, workers, &schedule)` is a whole run over rooms that one caller enters for all workers: the turns of a
 //! schedule, then the drain, then worker 0 alone. What it answers is the run of the machine that the values were at first
-//! (`specs/Plays.antt`), and so serial. Its parts stand in `sole_turns`, `scheduling`, `draining` and `lone`.
-//!
-//! Start at `Session::turn` in `src/session.rt`. `specs/Places.antt` says when a session may take a turn (`IsFit`) and which
-//! place of the machine it stands on, `specs/Turns.antt` what a turn does and answers (`HasTurned`), `specs/SharedTurns.antt`
-//! what the machine's turn becomes where a room was held, `specs/TurnMoves.antt` which rooms a turn enters and leaves. Each
-//! phase has a file: `taking`, `calling`, `committing`, `undoing`; `entering` is the one that enters and leaves rooms.
+//! (`specs/Plays.antt`), and so serial. Its parts stand in `sole_turns`, `scheduling`, `draining` and `lone`. A turn is
+//! `Session::turn` of `sessions`, whose names stand here too.
 #![tactic(auto)]
 
-mod bodies;
-mod calling;
-mod committing;
 mod draining;
-mod entering;
-mod events;
 mod lone;
 mod plays;
-mod releases;
 mod scheduling;
-mod session;
 mod sole_turns;
-mod taking;
-mod undoing;
 
-pub use events::{Event, Stop, Turn};
 pub use plays::{Played, play};
-pub use session::Session;
+pub use sessions::{Event, Session, Stop, Turn};

@@ -6,13 +6,12 @@ ghost use Rattle.rooms.specs.Visits.{view_of as rooms_view};
 ghost use Rattle.iterate.specs.PlayedTurns.{machine_of, sessions_of, IsEmptiedAlone, MayAllTurn, TurnAnswers};
 ghost use Rattle.iterate.specs.Plays.{stop_of};
 
-use crate::events::{Event, Stop};
-use crate::session::Session;
 use crate::sole_turns::{nothing_is_ready, take_turn};
 use commit_book::Operator;
 use gate_core::Screen;
 use gx_base::SeqType;
 use rooms::{Value, VecRooms};
+use sessions::{Event, Session, Stop};
 
 // A turn of worker 0.
 #[inline(always)]

@@ -6,20 +6,19 @@ ghost use Rattle.rooms.specs.RoomsViews.{is_held};
 ghost use Rattle.rooms.specs.Values.{tells};
 ghost use Rattle.rooms.specs.Visits.{AreTold, view_of};
 ghost use Rattle.rooms.specs.declared.values.Value.{Value};
-ghost use Rattle.iterate.specs.EventViews.{turns_of};
+ghost use Rattle.sessions.specs.EventViews.{turns_of};
 ghost use Rattle.iterate.specs.PlayedTurns.{machine_of, sessions_of, run_of, AreBegun, IsLawfulValue, IsPlayedRun, MayAllTurn};
 ghost use Rattle.iterate.specs.Plays.{AreNewFor, ConflictsTellRight, IsPlayed, PassesFirst, begun_machine, stop_of};
-ghost use Rattle.iterate.specs.declared.events.Stop.TheVariants as stops;
+ghost use Rattle.sessions.specs.declared.events.Stop.TheVariants as stops;
 
 use crate::draining::drain;
-use crate::events::{Stop, Turn};
 use crate::lone::run_alone;
 use crate::scheduling::run_schedule;
-use crate::session::Session;
 use commit_book::Operator;
 use gate_core::Screen;
 use gx_base::SeqType;
 use rooms::{Value, VecRooms};
+use sessions::{Session, Stop, Turn};
 use speculation::laws::runs_are_serial;
 use std::alloc::Global;
 

@@ -7,15 +7,14 @@ ghost use Rattle.rooms.specs.Values.{tells};
 ghost use Rattle.rooms.specs.Visits.{view_of as rooms_view};
 ghost use Rattle.iterate.specs.PlayedTurns.{machine_of, sessions_of, run_of, MayAllTurn, IsTracedTurn, IsToldTurn, IsStoppedTurn};
 ghost use Rattle.iterate.specs.Plays.{ConflictsTellRight, stop_of};
-ghost use Rattle.iterate.specs.declared.events.Stop.TheVariants as stops;
+ghost use Rattle.sessions.specs.declared.events.Stop.TheVariants as stops;
 
-use crate::events::{Stop, Turn};
-use crate::session::Session;
 use crate::sole_turns::{note, nothing_is_ready, take_turn};
 use commit_book::Operator;
 use gate_core::Screen;
 use gx_base::SeqType;
 use rooms::{Value, VecRooms};
+use sessions::{Session, Stop, Turn};
 
 // One turn of a worker, which goes to the trace.
 fn traced_turn<O: Operator, T: SeqType, S: Screen<T>>(

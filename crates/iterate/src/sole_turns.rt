@@ -6,20 +6,19 @@ ghost use Rattle.speculation.specs.ScheduledRuns.{is_empty};
 ghost use Rattle.rooms.specs.RoomsViews.{is_held};
 ghost use Rattle.rooms.specs.Values.{tells};
 ghost use Rattle.rooms.specs.Visits.{AreTold, view_of as rooms_view};
-ghost use Rattle.iterate.specs.EventViews.{turns_of};
-ghost use Rattle.iterate.specs.Places.{IsFit, book_of};
+ghost use Rattle.sessions.specs.EventViews.{turns_of};
+ghost use Rattle.sessions.specs.Places.{IsFit, book_of};
 ghost use Rattle.iterate.specs.PlayedTurns.{machine_of, sessions_of, MayAllTurn, TellsCall, TurnAnswers};
 ghost use Rattle.iterate.specs.Plays.{book_in};
-ghost use Rattle.iterate.specs.SessionViews.{view_of};
-ghost use Rattle.iterate.specs.Turns.{event_of, HasTurned};
-ghost use Rattle.iterate.specs.declared.events.Stop.TheVariants as stops;
+ghost use Rattle.sessions.specs.SessionViews.{view_of};
+ghost use Rattle.sessions.specs.Turns.{event_of, HasTurned};
+ghost use Rattle.sessions.specs.declared.events.Stop.TheVariants as stops;
 
-use crate::events::{Event, Stop, Turn};
-use crate::session::Session;
 use commit_book::Operator;
 use gate_core::Screen;
 use gx_base::{Call, SeqType};
 use rooms::{Rooms, Value, VecRooms};
+use sessions::{Event, Session, Stop, Turn};
 
 /// Whether no item is ready.
 #[inline(always)]

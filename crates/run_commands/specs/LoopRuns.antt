@@ -13,8 +13,8 @@ use Rattle.speculation.specs.Limits.{Limit, limit_of_played}
 use Rattle.speculation.specs.Machines.{Machine}
 use Rattle.speculation.specs.ScheduledRuns.{Run, played}
 use Rattle.schedules.specs.Draws.{scheduled_turns}
-use Rattle.iterate.specs.Places.{no_gate}
-use Rattle.iterate.specs.SessionViews.{begun_view}
+use Rattle.sessions.specs.Places.{no_gate}
+use Rattle.sessions.specs.SessionViews.{begun_view}
 use Rattle.traces.specs.Traces.{trace_text}
 use Rattle.run_words.specs.declared.options.RunOptions.{RunOptions}
 

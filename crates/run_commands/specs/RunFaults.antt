@@ -12,8 +12,8 @@ use Rattle.run_commands.specs.declared.run_faults.TableFault.{TableFault}
 use Rattle.run_commands.specs.declared.run_faults.TableFault.TheVariants.{Line, Pair}
 use Rattle.table_choice.specs.declared.refusals.TableRefuse.{TableRefuse}
 use Rattle.table_choice.specs.declared.refusals.TableRefuse.TheVariants as tables
-use Rattle.iterate.specs.declared.events.Stop.{Stop}
-use Rattle.iterate.specs.declared.events.Stop.TheVariants as stops
+use Rattle.sessions.specs.declared.events.Stop.{Stop}
+use Rattle.sessions.specs.declared.events.Stop.TheVariants as stops
 use Rattle.speculation.specs.Limits.{Limit}
 use Rattle.speculation.specs.Limits as limits
 use Rattle.run_commands.specs.Inputs.{Inputs}

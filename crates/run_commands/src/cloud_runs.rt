@@ -5,7 +5,7 @@ ghost use Rattle.gx_base.specs.declared.inputs.What.{What};
 ghost use Rattle.gx_base.specs.declared.kinds.Kind.TheVariants.{Points, Cells};
 ghost use Rattle.clustering.specs.CloudState.{state_of};
 ghost use Rattle.speculation.specs.Limits.{Limit};
-ghost use Rattle.iterate.specs.EventViews.{turns_of};
+ghost use Rattle.sessions.specs.EventViews.{turns_of};
 ghost use Rattle.run_commands.specs.declared.run_faults.RunFault.TheVariants as faults;
 ghost use Rattle.run_commands.specs.declared.run_faults.TableFault.{TableFault};
 ghost use Rattle.run_commands.specs.LoopRooms.{AreValuesOf, IsLoopPlayed, gates_over};

@@ -9,7 +9,7 @@ ghost use Rattle.speculation.specs.Limits.{Limit};
 ghost use Rattle.schedules.specs.Draws.{scheduled_turns};
 ghost use Rattle.rooms.specs.Values.{tells};
 ghost use Rattle.rooms.specs.Visits.{AreGatesAndBook};
-ghost use Rattle.iterate.specs.EventViews.{turns_of};
+ghost use Rattle.sessions.specs.EventViews.{turns_of};
 ghost use Rattle.iterate.specs.Plays.{AreNewFor, IsPlayed, PassesFirst, begun_machine};
 ghost use Rattle.traces.specs.Traces.{trace_text};
 ghost use Rattle.run_commands.specs.declared.run_faults.RunFault.TheVariants as faults;

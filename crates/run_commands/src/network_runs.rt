@@ -6,7 +6,7 @@ ghost use Rattle.gx_base.specs.declared.kinds.Kind.TheVariants.{Flow};
 ghost use Rattle.flow_graph.specs.FlowState.{state_of};
 ghost use Rattle.preflow_push.specs.Networks.{view};
 ghost use Rattle.speculation.specs.Limits.{Limit};
-ghost use Rattle.iterate.specs.EventViews.{turns_of};
+ghost use Rattle.sessions.specs.EventViews.{turns_of};
 ghost use Rattle.run_commands.specs.declared.run_faults.RunFault.TheVariants as faults;
 ghost use Rattle.run_commands.specs.declared.run_faults.TableFault.{TableFault};
 ghost use Rattle.run_commands.specs.LoopRooms.{AreValuesOf, IsLoopPlayed, gates_over};

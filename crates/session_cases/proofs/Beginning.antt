@@ -13,8 +13,8 @@ use Rattle.rooms.specs.Values.{tells}
 use Rattle.rooms.specs.Visits.{Visits, everyone, live_in, view_of}
 use Rattle.rooms.specs.declared.values.Value.{Value}
 use Rattle.rooms.specs.declared.values.Value.TheVariants.{Object, Book}
-use Rattle.iterate.specs.Places.{IsLogIn, IsLogOf, IfTold, gate_of, IsFit}
-use Rattle.iterate.specs.SessionViews.{SessionView, begun_view}
+use Rattle.sessions.specs.Places.{IsLogIn, IsLogOf, IfTold, gate_of, IsFit}
+use Rattle.sessions.specs.SessionViews.{SessionView, begun_view}
 use Rattle.session_cases.specs.Beginnings.{IsBegunGate, MayBeginHere}
 use Rattle.session_cases.specs.LostTakes.{lossy_view}
 

@@ -6,9 +6,9 @@ use Rattle.gate_core.specs.Views.{GateView}
 use Rattle.rooms.specs.RoomsViews.{RoomsView, is_held}
 use Rattle.rooms.specs.declared.values.Value.{Value}
 use Rattle.rooms.specs.declared.values.Value.TheVariants.{Object, Book}
-use Rattle.iterate.specs.Places.{IsFit}
+use Rattle.sessions.specs.Places.{IsFit}
 use Rattle.iterate.specs.Plays.{AreNewFor}
-use Rattle.iterate.specs.SessionViews.{begun_view}
+use Rattle.sessions.specs.SessionViews.{begun_view}
 
 -- nothing has committed in the gate, and worker 0 has no entry in it
 pub record IsBegunGate (gate : GateView) : Type 0 where

@@ -3,8 +3,8 @@
 
 ghost use Rattle.std.specs.Prelude.{◌≡◌, false, IfOk};
 ghost use Rattle.commit_book.specs.SerialRuns.{operator_of};
-ghost use Rattle.iterate.specs.Places.{IsFit};
-ghost use Rattle.iterate.specs.SessionViews.{view_of as session_view};
+ghost use Rattle.sessions.specs.Places.{IsFit};
+ghost use Rattle.sessions.specs.SessionViews.{view_of as session_view};
 ghost use Rattle.rooms.specs.Values.{tells};
 ghost use Rattle.rooms.specs.Visits.{view_of};
 ghost use Rattle.session_cases.specs.Beginnings.{IsBegunGate, MayBeginHere};

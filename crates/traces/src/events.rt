@@ -1,7 +1,7 @@
 ghost use Rattle.std.specs.Prelude.{◌≡◌, ◌++◌, ◌∷◌, [], ℕ, List, codes, OnOk};
 ghost use Rattle.std.specs.Fmt.{decimal, signed_decimal};
 ghost use Rattle.line_writer.specs.Lines.{line};
-ghost use Rattle.iterate.specs.EventViews.{turn_of};
+ghost use Rattle.sessions.specs.EventViews.{turn_of};
 ghost use Rattle.traces.specs.Traces.{item_fields, call_fields, argument_fields, answered_fields, reply_fields, turn_line, told_line};
 
 use gate_core::Told;

@@ -1,5 +1,5 @@
 ghost use Rattle.std.specs.Prelude.{◌≡◌, ◌++◌, OnOk};
-ghost use Rattle.iterate.specs.EventViews.{turn_of, turns_of};
+ghost use Rattle.sessions.specs.EventViews.{turn_of, turns_of};
 ghost use Rattle.traces.specs.Traces.{if_wanted, told_text, turn_line, turn_text, trace_text};
 
 use crate::events::{put_told, put_turn};

@@ -14,8 +14,8 @@ use Rattle.rooms.specs.Values.{tells}
 use Rattle.rooms.specs.Visits.{Visits, AreGatesAndBook, view_of}
 use Rattle.rooms.specs.declared.values.Value.{Value}
 use Rattle.iterate.specs.Plays.{AreNewFor, IsPlayed, PassesFirst, begun_machine, stop_of}
-use Rattle.iterate.specs.declared.events.Stop.{Stop}
-use Rattle.iterate.specs.declared.events.Stop.TheVariants as stops
+use Rattle.sessions.specs.declared.events.Stop.{Stop}
+use Rattle.sessions.specs.declared.events.Stop.TheVariants as stops
 use Rattle.run_words.specs.declared.options.RunOptions.{RunOptions}
 use Rattle.run_commands.specs.LoopRuns.{Loop, GateTables, IsRunPast, loop_machine}
 use Rattle.run_commands.specs.LoopRooms.{AreValuesOf, IsLoopPlayed}

@@ -21,9 +21,9 @@ use Rattle.rooms.specs.Values.{tells}
 use Rattle.rooms.specs.Visits.{AreGatesAndBook}
 use Rattle.rooms.specs.declared.values.Value.{Value}
 use Rattle.rooms.specs.declared.values.Value.TheVariants.{Object, Book}
-use Rattle.iterate.specs.Places.{no_gate}
+use Rattle.sessions.specs.Places.{no_gate}
 use Rattle.iterate.specs.Plays.{AreNewFor, begun_machine, gate_in, book_in}
-use Rattle.iterate.specs.SessionViews.{begun_view}
+use Rattle.sessions.specs.SessionViews.{begun_view}
 use Rattle.traces.specs.Traces.{trace_text}
 use Rattle.run_words.specs.declared.options.RunOptions.{RunOptions}
 use Rattle.run_commands.specs.LoopRuns.{Loop, GateTables, IsReportOf, loop_machine, new_gate, run_of}

@@ -5,9 +5,9 @@ use Rattle.commit_book.specs.SerialRuns.{operator_of}
 use Rattle.speculation.specs.Sessions.{Session, is_idle}
 use Rattle.rooms.specs.Values.{tells}
 use Rattle.rooms.specs.Visits.{view_of as rooms_view}
-use Rattle.iterate.specs.EventViews.{turns_of}
+use Rattle.sessions.specs.EventViews.{turns_of}
 use Rattle.iterate.specs.PlayedTurns.{machine_of, sessions_of}
-use Rattle.iterate.specs.Turns.{event_of}
+use Rattle.sessions.specs.Turns.{event_of}
 use Rattle.iterate.proofs.Drains.{never_stops, drained_turn, left_after}
 use Rattle.iterate.proofs.SessionLists.{here}
 use Rattle.iterate.proofs.draining.drain_step.Goals as goal

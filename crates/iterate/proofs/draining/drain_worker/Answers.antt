@@ -5,7 +5,8 @@ use Rattle.speculation.specs.Sessions.{Session}
 use Rattle.rooms.proofs.CallerLemmas.{put_same}
 use Rattle.rooms.specs.Values.{tells}
 use Rattle.rooms.specs.Visits.{view_of as rooms_view}
-use Rattle.iterate.specs.PlayedTurns.{sessions_of, run_of, left_off, with_left_off}
+use Rattle.iterate.specs.PlayedTurns.{sessions_of, run_of}
+use Rattle.sessions.specs.SessionViews.{left_off, with_left_off}
 use Rattle.iterate.proofs.Drains.{run_left, left_twice, next_step, last_step_left}
 use Rattle.iterate.proofs.ToldTurns.{adds_nothing, adds_more}
 use Rattle.iterate.proofs.draining.drain_worker.Goals as goal

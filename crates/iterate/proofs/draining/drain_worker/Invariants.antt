@@ -3,7 +3,8 @@ use Rattle.commit_book.specs.SerialRuns.{operator_of}
 use Rattle.speculation.specs.ScheduledRuns.{drain_steps}
 use Rattle.rooms.specs.Values.{tells}
 use Rattle.rooms.specs.Visits.{view_of as rooms_view}
-use Rattle.iterate.specs.PlayedTurns.{sessions_of, run_of, MayAllTurn, AddsNoConflict, left_off}
+use Rattle.iterate.specs.PlayedTurns.{sessions_of, run_of, MayAllTurn, AddsNoConflict}
+use Rattle.sessions.specs.SessionViews.{left_off}
 use Rattle.iterate.proofs.Drains.{run_left}
 use Rattle.iterate.proofs.draining.drain_worker.Given as goal
 

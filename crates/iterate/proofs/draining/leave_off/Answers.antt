@@ -5,8 +5,8 @@ use Rattle.gx_base.specs.Replays.{put}
 use Rattle.rooms.specs.Values.{tells}
 use Rattle.rooms.specs.Visits.{view_of as rooms_view}
 use Rattle.speculation.specs.Sessions.{Session}
-use Rattle.iterate.specs.PlayedTurns.{sessions_of, with_left_off}
-use Rattle.iterate.specs.SessionViews.{view_of}
+use Rattle.iterate.specs.PlayedTurns.{sessions_of}
+use Rattle.sessions.specs.SessionViews.{view_of, with_left_off}
 use Rattle.iterate.proofs.SessionLists.{here, set_sessions, all_set}
 use Rattle.iterate.proofs.Drains.{may_leave_off}
 use Rattle.iterate.proofs.draining.leave_off.Goals as goal

@@ -3,7 +3,7 @@ use Rattle.commit_book.specs.SerialRuns.{operator_of}
 use Rattle.rooms.specs.Values.{tells}
 use Rattle.rooms.specs.Visits.{view_of as rooms_view}
 use Rattle.iterate.specs.PlayedTurns.{machine_of, sessions_of}
-use Rattle.iterate.specs.Turns.{event_of}
+use Rattle.sessions.specs.Turns.{event_of}
 use Rattle.iterate.proofs.SessionLists.{all_free}
 use Rattle.iterate.proofs.LoneRuns.{leads_nowhere, leads_one_more, ends_alone, stops_alone}
 use Rattle.iterate.proofs.lone.run_alone.Goals as goal

@@ -1,6 +1,6 @@
 use Rattle.std.proofs.Common.{sym, ◌∙◌, ap, subst, arith}
 use Rattle.iterate.specs.PlayedTurns.{AreBegun}
-use Rattle.iterate.specs.SessionViews.{begun_view}
+use Rattle.sessions.specs.SessionViews.{begun_view}
 use Rattle.iterate.proofs.Beginnings.{one_more_begun}
 use Rattle.iterate.proofs.plays.begin_sessions.Goals as goal
 

@@ -5,10 +5,10 @@ use Rattle.speculation.specs.Machines.{Machine}
 use Rattle.rooms.specs.Values.{tells}
 use Rattle.rooms.specs.Visits.{view_of as rooms_view}
 use Rattle.rooms.proofs.CallerLemmas.{vector_acts_for}
-use Rattle.iterate.specs.EventViews.{turns_of}
+use Rattle.sessions.specs.EventViews.{turns_of}
 use Rattle.iterate.specs.PlayedTurns.{sessions_of, run_of, AreBegun, IsPlayedRun}
 use Rattle.iterate.specs.Plays.{begun_machine, stop_of, ConflictsTellRight, PassesFirst}
-use Rattle.iterate.specs.declared.events.Stop.TheVariants as stops
+use Rattle.sessions.specs.declared.events.Stop.TheVariants as stops
 use Rattle.iterate.proofs.Beginnings.{begins, begun_is, all_begin, is_played}
 use Rattle.iterate.proofs.WholeRuns.{none_passed, found_stop, as_results}
 use Rattle.iterate.proofs.plays.play.Goals as goal

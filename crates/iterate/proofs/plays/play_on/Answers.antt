@@ -5,7 +5,7 @@ use Rattle.speculation.specs.Premises.{ScheduledAsk}
 use Rattle.speculation.specs.ScheduledRuns.{Run, begun, scheduled}
 use Rattle.rooms.specs.Values.{tells}
 use Rattle.rooms.specs.Visits.{view_of as rooms_view}
-use Rattle.iterate.specs.EventViews.{turns_of}
+use Rattle.sessions.specs.EventViews.{turns_of}
 use Rattle.iterate.specs.PlayedTurns.{machine_of, sessions_of, run_of}
 use Rattle.iterate.proofs.SessionLists.{all_free, book_is}
 use Rattle.iterate.proofs.ToldTurns.{told_still}

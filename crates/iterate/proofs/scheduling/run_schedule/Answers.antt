@@ -5,7 +5,7 @@ use Rattle.commit_book.specs.SerialRuns.{operator_of}
 use Rattle.rooms.specs.Values.{tells}
 use Rattle.rooms.specs.Visits.{view_of as rooms_view}
 use Rattle.speculation.specs.ScheduledRuns.{Run, begun, scheduled}
-use Rattle.iterate.specs.EventViews.{turns_of}
+use Rattle.sessions.specs.EventViews.{turns_of}
 use Rattle.iterate.specs.PlayedTurns.{machine_of, sessions_of, run_of}
 use Rattle.iterate.specs.Plays.{ConflictsTellRight}
 use Rattle.iterate.proofs.SessionLists.{all_free}

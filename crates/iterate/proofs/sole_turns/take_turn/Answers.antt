@@ -5,8 +5,8 @@ use Rattle.rooms.specs.Values.{tells}
 use Rattle.rooms.specs.Visits.{view_of as rooms_view}
 use Rattle.rooms.proofs.CallerLemmas.{vector_never_risen}
 use Rattle.iterate.specs.PlayedTurns.{machine_of, sessions_of, TurnAnswers}
-use Rattle.iterate.specs.SessionViews.{view_of}
-use Rattle.iterate.specs.Turns.{AreSameRooms}
+use Rattle.sessions.specs.SessionViews.{view_of}
+use Rattle.sessions.specs.Turns.{AreSameRooms}
 use Rattle.iterate.proofs.SessionLists.{here, set_sessions, all_set}
 use Rattle.iterate.proofs.SoleTurns.{sole_turn, may_turn_on, other_may}
 use Rattle.iterate.proofs.sole_turns.take_turn.Goals as goal

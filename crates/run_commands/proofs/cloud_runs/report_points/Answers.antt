@@ -4,7 +4,7 @@ use Rattle.gx_base.specs.SerialRuns.{all_counted}
 use Rattle.commit_book.specs.Commits.{items_of}
 use Rattle.clustering.specs.CloudState.{state_of}
 use Rattle.clustering.specs.ClusterReports.{cluster_report}
-use Rattle.iterate.specs.EventViews.{turns_of}
+use Rattle.sessions.specs.EventViews.{turns_of}
 use Rattle.traces.specs.Traces.{trace_text}
 use Rattle.run_commands.specs.commands.Cluster.{cluster_loop, tables_in}
 use Rattle.run_commands.proofs.meanings.ClusterLaws.{run_comes_to}

@@ -1,5 +1,5 @@
 use Rattle.std.proofs.Common.{length}
-use Rattle.iterate.specs.EventViews.{turns_of}
+use Rattle.sessions.specs.EventViews.{turns_of}
 use Rattle.clustering.specs.Chains.{plan_of}
 use Rattle.run_commands.specs.commands.Cluster.{cluster_loop, tables_in}
 use Rattle.run_commands.proofs.meanings.ClusterLaws.{same_chain, few_rooms}

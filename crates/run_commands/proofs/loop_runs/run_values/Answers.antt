@@ -1,7 +1,7 @@
 use Rattle.std.proofs.Common.{◌≡◌, ◌∙◌, ℕ, List, Err, slice_get, sym, subst, ap}
 use Rattle.commit_book.specs.SerialRuns.{operator_of}
 use Rattle.speculation.specs.ScheduledRuns.{AllBelow}
-use Rattle.iterate.specs.EventViews.{turns_of}
+use Rattle.sessions.specs.EventViews.{turns_of}
 use Rattle.iterate.specs.Plays.{IsPlayed, PassesFirst, begun_machine}
 use Rattle.run_commands.specs.RunFaults.{fault_of_limit}
 use Rattle.run_commands.proofs.meanings.LoopPlays.{rooms_unheld, new_in_rooms, played_of, past_of, all_below, limit_told}

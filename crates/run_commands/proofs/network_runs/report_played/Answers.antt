@@ -3,7 +3,7 @@ use Rattle.gx_base.specs.Replays.{in_rooms}
 use Rattle.gx_base.specs.SerialRuns.{all_counted}
 use Rattle.commit_book.specs.Commits.{items_of}
 use Rattle.flow_graph.specs.FlowState.{state_of}
-use Rattle.iterate.specs.EventViews.{turns_of}
+use Rattle.sessions.specs.EventViews.{turns_of}
 use Rattle.preflow_push.specs.FlowReports.{flow_report}
 use Rattle.preflow_push.specs.Networks.{view}
 use Rattle.traces.specs.Traces.{trace_text}

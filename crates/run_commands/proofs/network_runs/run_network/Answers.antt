@@ -1,4 +1,4 @@
-use Rattle.iterate.specs.EventViews.{turns_of}
+use Rattle.sessions.specs.EventViews.{turns_of}
 use Rattle.preflow_push.specs.Discharges.{item_plan}
 use Rattle.preflow_push.specs.Networks.{view}
 use Rattle.run_commands.specs.commands.Flow.{network_loop, shard_tables}

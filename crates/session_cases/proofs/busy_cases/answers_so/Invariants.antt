@@ -1,6 +1,6 @@
 use Rattle.commit_book.specs.SerialRuns.{operator_of}
-use Rattle.iterate.specs.Places.{IsFit}
-use Rattle.iterate.specs.SessionViews.{view_of}
+use Rattle.sessions.specs.Places.{IsFit}
+use Rattle.sessions.specs.SessionViews.{view_of}
 use Rattle.session_cases.proofs.busy_cases.answers_so.Given as goal
 
 abbrev pub invariant-loop-want : goal.invariant-loop-want

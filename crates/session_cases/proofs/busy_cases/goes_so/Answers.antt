@@ -1,5 +1,5 @@
 use Rattle.std.proofs.Common.{sym, subst, refl}
-use Rattle.iterate.specs.Places.{IsFit}
+use Rattle.sessions.specs.Places.{IsFit}
 use Rattle.session_cases.proofs.Beginning.{fit_at_first}
 use Rattle.session_cases.proofs.busy_cases.goes_so.Goals as goal
 

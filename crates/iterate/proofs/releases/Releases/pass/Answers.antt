@@ -1,9 +1,0 @@
-use Rattle.std.proofs.Common.{◌≡◌, suc, ◌+◌, drop, sym, ◌∙◌, ap, arith}
-use Rattle.iterate.specs.RoomLists.{rooms_after_first}
-use Rattle.iterate.proofs.PlacedRooms.{rest_left}
-use Rattle.iterate.proofs.releases.Releases.pass.Goals as goal
-
-pub returns-then-self-len : goal.returns-then-self-len
-returns-then-self-len c =
-    let more : c.self.inside.passed + 1 ≡ suc c.self.inside.passed = omega arith in
-    ap (λ k. drop k c.self.inside.rooms.items) more ∙ sym (rest_left c.self.inside.rooms.items c.self.inside.passed) ∙ ap rooms_after_first c.self.view_is
