@@ -1,7 +1,7 @@
 -- The numbers of the values that stand in inequalities are among those that are locked.
 use Rattle.std.specs.Prelude.{◌≡◌, ℕ, zero, suc, ◌+◌, ◌<◌, ◌==◌, Bool, true, false, cond, ◌&&◌, ◌||◌, ◌⊎◌, nat_le, Option, Some, None, List, [], ◌∷◌, map, length, Contains, refl}
 use Rattle.std.proofs.Common.{sym, ap, ◌∙◌, subst, inl, inr, arith}
-use Rattle.std.proofs.lemmas.Bool.{or_cases, and_parts, eqb-true}
+use Rattle.std.proofs.lemmas.Bool.{or_cases, and_parts, and_from, eqb-true, eq-eqb}
 use Rattle.gx_base.specs.declared.conditions.Side.{Side}
 use Rattle.gx_base.specs.declared.conditions.Side.TheVariants.{First, Second}
 use Rattle.gx_base.specs.declared.conditions.Term.{Term}
@@ -65,6 +65,9 @@ matched : (i j k l : ℕ) → ((i == k) && (j == l)) ≡ true → AreValues (Val
 matched i j k l e =
     let p = and_parts (i == k) (j == l) e in
     record { either = inl (ap (λ n. Value First n) (sym (eqb-true i k p.0)), ap (λ n. Value Second n) (sym (eqb-true j l p.1))) }
+
+pub itself : (i j : ℕ) → ((i == i) && (j == j)) ≡ true
+itself i j = and_from (i == i) (j == j) (eq-eqb i i refl) (eq-eqb j j refl)
 
 or_none : (b : Bool) → (b || false) ≡ true → b ≡ true
 or_none true e = refl

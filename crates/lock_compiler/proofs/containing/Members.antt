@@ -43,3 +43,9 @@ range_in from count n low high =
     let within : n - from < count = omega arith in
     let number : from + (n - from) ≡ n = omega arith in
     (n - from, omega (arith, length-range_with_len from count), get_or-range_with_len from count (n - from) n within ∙ number)
+
+pub in_range : (from count n : ℕ) → Contains (range_with_len from count) n → (from ≤ n) × (n < from + count)
+in_range from count n (k, h, e) =
+    let within : k < count = omega (arith, length-range_with_len from count) in
+    let number : from + k ≡ n = sym (get_or-range_with_len from count k n within) ∙ e in
+    (omega arith, omega arith)
