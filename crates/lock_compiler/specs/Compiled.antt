@@ -1,5 +1,5 @@
 -- The modes that keep a table of simple rows.
-use Rattle.std.specs.Prelude.{◌≡◌, ◌⊎◌, ℕ, ◌+◌, ◌==◌, Bool, true, false, nat_le, Option, Some, None, List, [], ◌∷◌, map, if◌then◌else◌}
+use Rattle.std.specs.Prelude.{◌≡◌, ◌⊎◌, ℕ, ◌==◌, Bool, true, false, nat_le, Some, None, List, [], ◌∷◌, map, if◌then◌else◌}
 use Rattle.std.specs.List.{flat_map}
 use Rattle.gx_base.specs.declared.conditions.Side.{Side}
 use Rattle.gx_base.specs.declared.conditions.Side.TheVariants.{First, Second}

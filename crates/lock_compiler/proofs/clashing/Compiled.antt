@@ -1,5 +1,5 @@
 -- Calls clash under the modes of a table of simple rows exactly where their row is false.
-use Rattle.std.specs.Prelude.{◌≡◌, ◌⊎◌, ℕ, ◌<◌, ◌==◌, ℤ, Bool, true, false, not, ◌&&◌, ◌||◌, Option, Some, None, List, [], ◌∷◌, map, length, Contains, refl}
+use Rattle.std.specs.Prelude.{◌≡◌, ℕ, ◌<◌, ◌==◌, ℤ, true, false, not, ◌&&◌, Option, Some, None, List, [], ◌∷◌, map, length, Contains, refl}
 use Rattle.std.specs.Ordering.{int_eq}
 use Rattle.std.proofs.Common.{sym, ap, ◌∙◌, subst, inl, inr, arith, get_or}
 use Rattle.std.proofs.lemmas.Bool.{and_parts, and_cases, or_cases, or_left, or_right, not-false, and_left, and_right}
@@ -14,10 +14,9 @@ use Rattle.gx_base.specs.Conditions.{Condition, True, False, Ne, And, holds, is_
 use Rattle.gx_base.specs.Methods.{is_method}
 use Rattle.gx_base.specs.Tables.{Rows}
 use Rattle.cond_lattice.specs.Grades.{are_across, is_conjunction, is_simple, AreSimple}
-use Rattle.cond_lattice.specs.Same.{same_sides}
 use Rattle.cond_lattice.specs.Simple.{stands_in}
-use Rattle.lock_compiler.specs.LockModes.{Member, LockMode, LockModes, no_mode, members_at, incompatible, locked_value, Clash}
-use Rattle.lock_compiler.specs.Compiled.{members_of, members_refuse, single_mode, compiled, locked_numbers}
+use Rattle.lock_compiler.specs.LockModes.{Member, LockMode, no_mode, members_at, incompatible, locked_value, Clash}
+use Rattle.lock_compiler.specs.Compiled.{members_of, members_refuse, single_mode, compiled}
 use Rattle.lock_compiler.proofs.containing.Members.{first_in, only_in}
 use Rattle.lock_compiler.proofs.collecting.LockedNumbers.{AreValues, itself, values_stand, first_locked, second_locked, whole_in, value_in}
 use Rattle.lock_compiler.proofs.clashing.Needs.{ClashAt, clash_parts, clash_from}

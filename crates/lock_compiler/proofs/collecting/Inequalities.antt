@@ -1,6 +1,6 @@
 -- The numbers that are locked are those of values in inequalities, and no others.
-use Rattle.std.specs.Prelude.{◌≡◌, ℕ, ◌+◌, ◌<◌, ◌≤◌, ◌==◌, Bool, true, false, cond, ◌&&◌, ◌||◌, ◌⊎◌, nat_le, nat_lt, List, [], ◌∷◌, length, Contains, refl}
-use Rattle.std.proofs.Common.{sym, subst, inl, inr, arith}
+use Rattle.std.specs.Prelude.{◌≡◌, ℕ, ◌+◌, ◌==◌, Bool, true, false, cond, ◌&&◌, ◌⊎◌, nat_le, nat_lt, List, [], ◌∷◌, length, Contains}
+use Rattle.std.proofs.Common.{subst, inl, inr}
 use Rattle.std.proofs.lemmas.Bool.{and_parts, and_from, or_left, or_right, le-leb, lt-ltb}
 use Rattle.gx_base.specs.declared.conditions.Side.{Side}
 use Rattle.gx_base.specs.declared.conditions.Side.TheVariants.{First, Second}
@@ -100,9 +100,9 @@ in_method kind rows method other xs q simple m n h =
     elim (in_row Second (rows other method) (with_condition First (rows method other) xs) q (simple other method n m) h) [
       | inl s ↦ inl (record { other = other; known = n; partner = s.0; stands = inr s.1 })
       | inr more ↦ elim (in_row First (rows method other) xs q (simple method other m n) more) [
-          | inl s ↦ inl (record { other = other; known = n; partner = s.0; stands = inl s.1 })
-          | inr old ↦ inr old
-        ]
+        | inl s ↦ inl (record { other = other; known = n; partner = s.0; stands = inl s.1 })
+        | inr old ↦ inr old
+      ]
     ]
 
 in_methods : (kind : ℕ) (rows : Rows) (method : ℕ) (others xs : List ℕ) (q : ℕ) → AreSimple kind rows → is_method kind method ≡ true → ((n : ℕ) → Contains others n → is_method kind n ≡ true)

@@ -1,6 +1,6 @@
 -- The numbers of the values that stand in inequalities are among those that are locked.
-use Rattle.std.specs.Prelude.{◌≡◌, ℕ, zero, suc, ◌+◌, ◌<◌, ◌==◌, Bool, true, false, cond, ◌&&◌, ◌||◌, ◌⊎◌, nat_le, Option, Some, None, List, [], ◌∷◌, map, length, Contains, refl}
-use Rattle.std.proofs.Common.{sym, ap, ◌∙◌, subst, inl, inr, arith}
+use Rattle.std.specs.Prelude.{◌≡◌, ℕ, ◌==◌, Bool, true, false, cond, ◌&&◌, ◌||◌, ◌⊎◌, nat_le, Some, None, List, [], ◌∷◌, map, length, Contains, refl}
+use Rattle.std.proofs.Common.{sym, ap, subst, inl, inr}
 use Rattle.std.proofs.lemmas.Bool.{or_cases, and_parts, and_from, eqb-true, eq-eqb}
 use Rattle.gx_base.specs.declared.conditions.Side.{Side}
 use Rattle.gx_base.specs.declared.conditions.Side.TheVariants.{First, Second}
@@ -14,7 +14,6 @@ use Rattle.gx_base.proofs.CallerLemmas.{within_of}
 use Rattle.cond_lattice.specs.Grades.{are_across, is_conjunction}
 use Rattle.cond_lattice.specs.Same.{same_sides}
 use Rattle.cond_lattice.specs.Simple.{stands_in}
-use Rattle.lock_compiler.specs.LockModes.{Member}
 use Rattle.lock_compiler.specs.Compiled.{with_its_number, with_term, with_condition, with_methods, locked_numbers, method_members, members_of}
 use Rattle.lock_compiler.proofs.containing.Members.{none_in, first_in, later_in, in_either, map_in, flat_map_in, range_in}
 
