@@ -1,2 +1,4 @@
 pub mod LockedNumbers
+pub mod Inequalities
+pub mod Rising
 pub mod Steps

@@ -1,5 +1,5 @@
 -- The modes that keep a table of simple rows.
-use Rattle.std.specs.Prelude.{ℕ, ◌+◌, ◌==◌, Bool, true, false, nat_le, Option, Some, None, List, [], ◌∷◌, map, if◌then◌else◌}
+use Rattle.std.specs.Prelude.{◌≡◌, ◌⊎◌, ℕ, ◌==◌, Bool, true, false, nat_le, Some, None, List, [], ◌∷◌, map, if◌then◌else◌}
 use Rattle.std.specs.List.{flat_map}
 use Rattle.gx_base.specs.declared.conditions.Side.{Side}
 use Rattle.gx_base.specs.declared.conditions.Side.TheVariants.{First, Second}
@@ -7,7 +7,7 @@ use Rattle.gx_base.specs.declared.conditions.Term.{Term}
 use Rattle.gx_base.specs.declared.conditions.Term.TheVariants.{Value}
 use Rattle.gx_base.specs.Conditions.{Condition, Ne, And, is_false}
 use Rattle.gx_base.specs.Below.{same_side}
-use Rattle.gx_base.specs.Methods.{methods_of}
+use Rattle.gx_base.specs.Methods.{is_method, methods_of}
 use Rattle.gx_base.specs.Tables.{Rows}
 use Rattle.cond_lattice.specs.Simple.{stands_in}
 use Rattle.lock_compiler.specs.LockModes.{Member, LockMode, LockModes}
@@ -37,6 +37,15 @@ with_methods rows method (other ∷ others) numbers =
 -- the numbers of the values that stand in some inequality of a method, rising
 abbrev pub locked_numbers : ℕ → Rows → ℕ → List ℕ
 locked_numbers kind rows method = with_methods rows method (methods_of kind) []
+
+-- a row has an inequality with the value of this number of the method's calls, where a call of the method runs first
+-- or where it runs second
+pub record StandsInSome (kind : ℕ) (rows : Rows) (method number : ℕ) : Type 0 where
+  pub other : ℕ
+  pub known : is_method kind other ≡ true
+  pub partner : ℕ
+  pub stands : (stands_in (Value First number) (Value Second partner) (rows method other) ≡ true)
+      ⊎ (stands_in (Value First partner) (Value Second number) (rows other method) ≡ true)
 
 -- a method as a whole, and then its values
 abbrev pub method_members : ℕ → Rows → ℕ → List Member

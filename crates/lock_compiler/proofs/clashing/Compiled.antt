@@ -1,8 +1,8 @@
 -- Calls clash under the modes of a table of simple rows exactly where their row is false.
-use Rattle.std.specs.Prelude.{◌≡◌, ◌⊎◌, ℕ, ◌<◌, ◌==◌, ℤ, Bool, true, false, not, ◌&&◌, ◌||◌, Option, Some, None, List, [], ◌∷◌, map, length, Contains, refl}
+use Rattle.std.specs.Prelude.{◌≡◌, ℕ, ◌<◌, ◌==◌, ℤ, true, false, not, ◌&&◌, Option, Some, None, List, [], ◌∷◌, map, length, Contains, refl}
 use Rattle.std.specs.Ordering.{int_eq}
 use Rattle.std.proofs.Common.{sym, ap, ◌∙◌, subst, inl, inr, arith, get_or}
-use Rattle.std.proofs.lemmas.Bool.{and_parts, and_cases, and_from, or_cases, or_left, or_right, not-false, eq-eqb, and_left, and_right}
+use Rattle.std.proofs.lemmas.Bool.{and_parts, and_cases, or_cases, or_left, or_right, not-false, and_left, and_right}
 use Rattle.std.proofs.lemmas.Bool.Decides.{Decides-int_eq}
 use Rattle.std.proofs.lemmas.List.{length-map, get_or-map, get_or_default}
 use Rattle.gx_base.specs.declared.calls.Made.{Made}
@@ -14,12 +14,11 @@ use Rattle.gx_base.specs.Conditions.{Condition, True, False, Ne, And, holds, is_
 use Rattle.gx_base.specs.Methods.{is_method}
 use Rattle.gx_base.specs.Tables.{Rows}
 use Rattle.cond_lattice.specs.Grades.{are_across, is_conjunction, is_simple, AreSimple}
-use Rattle.cond_lattice.specs.Same.{same_sides}
 use Rattle.cond_lattice.specs.Simple.{stands_in}
-use Rattle.lock_compiler.specs.LockModes.{Member, LockMode, LockModes, no_mode, members_at, incompatible, locked_value, Clash}
-use Rattle.lock_compiler.specs.Compiled.{members_of, members_refuse, single_mode, compiled, locked_numbers}
+use Rattle.lock_compiler.specs.LockModes.{Member, LockMode, no_mode, members_at, incompatible, locked_value, Clash}
+use Rattle.lock_compiler.specs.Compiled.{members_of, members_refuse, single_mode, compiled}
 use Rattle.lock_compiler.proofs.containing.Members.{first_in, only_in}
-use Rattle.lock_compiler.proofs.collecting.LockedNumbers.{AreValues, values_stand, first_locked, second_locked, whole_in, value_in}
+use Rattle.lock_compiler.proofs.collecting.LockedNumbers.{AreValues, itself, values_stand, first_locked, second_locked, whole_in, value_in}
 use Rattle.lock_compiler.proofs.clashing.Needs.{ClashAt, clash_parts, clash_from}
 
 equal_true : (x y : ℤ) → x ≡ y → int_eq x y ≡ true
@@ -55,9 +54,6 @@ record Fails (c : Condition) (first second : Made) : Type 0 where
   j : ℕ
   stands : stands_in (Value First i) (Value Second j) c ≡ true
   equal : value_of first i ≡ value_of second j
-
-itself : (i j : ℕ) → ((i == i) && (j == j)) ≡ true
-itself i j = and_from (i == i) (j == j) (eq-eqb i i refl) (eq-eqb j j refl)
 
 ne_fails : (x y : Term) (first second : Made) (seen : Seen) → are_across x y ≡ true → holds (Ne x y) first second seen ≡ false → Fails (Ne x y) first second
 ne_fails (Value First k) (Value Second l) first second seen h e = record {
@@ -114,7 +110,7 @@ single_refuses rows all h a d held asked =
 
 -- two members that refuse each other at equal values
 
-simple_stands : (i j : ℕ) (c : Condition) → is_simple c ≡ true → stands_in (Value First i) (Value Second j) c ≡ true → is_conjunction c ≡ true
+pub simple_stands : (i j : ℕ) (c : Condition) → is_simple c ≡ true → stands_in (Value First i) (Value Second j) c ≡ true → is_conjunction c ≡ true
 simple_stands i j True s e = absurd (cc)
 simple_stands i j False s e = absurd (cc)
 simple_stands i j _ s e = s

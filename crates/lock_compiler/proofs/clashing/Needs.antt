@@ -1,12 +1,12 @@
 -- Calls clash where modes that have members of their methods do.
-use Rattle.std.specs.Prelude.{◌≡◌, ℕ, zero, suc, ◌+◌, ◌<◌, ◌==◌, Bool, true, false, cond, Option, Some, None, List, [], ◌∷◌, ◌++◌, map, length, Contains, slice_get, IfSome, refl}
+use Rattle.std.specs.Prelude.{◌≡◌, ℕ, zero, suc, ◌+◌, ◌<◌, ◌==◌, Bool, true, false, cond, Option, Some, None, List, [], ◌∷◌, length, Contains, slice_get, IfSome, refl}
 use Rattle.std.proofs.Common.{sym, ap, ◌∙◌, subst, inl, inr, arith, zero-add}
 use Rattle.std.proofs.lemmas.Bool.{eqb-true, eq-eqb}
 use Rattle.std.proofs.lemmas.List.Elements.{Contains-append_left, Contains-append_right, Contains-append_cases}
 use Rattle.std.proofs.lemmas.Option.{slice_get_within, get_or_from_slice_get}
 use Rattle.gx_base.specs.declared.calls.Made.{Made}
 use Rattle.lock_compiler.specs.declared.modes.Need.{Need}
-use Rattle.lock_compiler.specs.LockModes.{Member, LockMode, LockModes, members_at, incompatible, Want, wants_among, wants_from, wants_of, locked_value, need_of, needs_of, Clash}
+use Rattle.lock_compiler.specs.LockModes.{Member, LockModes, members_at, incompatible, Want, wants_among, wants_from, wants_of, locked_value, need_of, needs_of, Clash}
 use Rattle.lock_compiler.proofs.containing.Members.{none_in, first_in, later_in, in_either, map_in, in_map}
 
 among_by : (number : ℕ) (member : Member) (members : List Member) (method : ℕ) (want : Want) (t : Bool) → (member.0 == method) ≡ t

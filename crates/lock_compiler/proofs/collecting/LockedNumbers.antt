@@ -1,7 +1,7 @@
 -- The numbers of the values that stand in inequalities are among those that are locked.
-use Rattle.std.specs.Prelude.{◌≡◌, ℕ, zero, suc, ◌+◌, ◌<◌, ◌==◌, Bool, true, false, cond, ◌&&◌, ◌||◌, ◌⊎◌, nat_le, Option, Some, None, List, [], ◌∷◌, map, length, Contains, refl}
-use Rattle.std.proofs.Common.{sym, ap, ◌∙◌, subst, inl, inr, arith}
-use Rattle.std.proofs.lemmas.Bool.{or_cases, and_parts, eqb-true}
+use Rattle.std.specs.Prelude.{◌≡◌, ℕ, ◌==◌, Bool, true, false, cond, ◌&&◌, ◌||◌, ◌⊎◌, nat_le, Some, None, List, [], ◌∷◌, map, length, Contains, refl}
+use Rattle.std.proofs.Common.{sym, ap, subst, inl, inr}
+use Rattle.std.proofs.lemmas.Bool.{or_cases, and_parts, and_from, eqb-true, eq-eqb}
 use Rattle.gx_base.specs.declared.conditions.Side.{Side}
 use Rattle.gx_base.specs.declared.conditions.Side.TheVariants.{First, Second}
 use Rattle.gx_base.specs.declared.conditions.Term.{Term}
@@ -14,7 +14,6 @@ use Rattle.gx_base.proofs.CallerLemmas.{within_of}
 use Rattle.cond_lattice.specs.Grades.{are_across, is_conjunction}
 use Rattle.cond_lattice.specs.Same.{same_sides}
 use Rattle.cond_lattice.specs.Simple.{stands_in}
-use Rattle.lock_compiler.specs.LockModes.{Member}
 use Rattle.lock_compiler.specs.Compiled.{with_its_number, with_term, with_condition, with_methods, locked_numbers, method_members, members_of}
 use Rattle.lock_compiler.proofs.containing.Members.{none_in, first_in, later_in, in_either, map_in, flat_map_in, range_in}
 
@@ -65,6 +64,9 @@ matched : (i j k l : ℕ) → ((i == k) && (j == l)) ≡ true → AreValues (Val
 matched i j k l e =
     let p = and_parts (i == k) (j == l) e in
     record { either = inl (ap (λ n. Value First n) (sym (eqb-true i k p.0)), ap (λ n. Value Second n) (sym (eqb-true j l p.1))) }
+
+pub itself : (i j : ℕ) → ((i == i) && (j == j)) ≡ true
+itself i j = and_from (i == i) (j == j) (eq-eqb i i refl) (eq-eqb j j refl)
 
 or_none : (b : Bool) → (b || false) ≡ true → b ≡ true
 or_none true e = refl

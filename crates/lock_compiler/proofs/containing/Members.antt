@@ -1,10 +1,10 @@
 -- What lists contain that are made of others.
-use Rattle.std.specs.Prelude.{◌≡◌, ◌⊎◌, ℕ, zero, suc, ◌+◌, ◌-◌, ◌<◌, ◌≤◌, List, [], ◌∷◌, ◌++◌, map, length, Contains, refl}
+use Rattle.std.specs.Prelude.{◌≡◌, ◌⊎◌, ℕ, zero, suc, ◌+◌, ◌-◌, ◌<◌, ◌≤◌, List, [], ◌∷◌, map, length, Contains, refl}
 use Rattle.std.specs.List.{flat_map, range_with_len}
 use Rattle.std.proofs.Common.{sym, ap, ◌∙◌, subst, inl, inr, arith, get_or}
 use Rattle.std.proofs.lemmas.List.{length-map, get_or-map}
 use Rattle.std.proofs.lemmas.List.FromFn.{length-range_with_len, get_or-range_with_len}
-use Rattle.std.proofs.lemmas.List.Elements.{Contains-get_or, Contains-append_left, Contains-append_right, Contains-append_cases}
+use Rattle.std.proofs.lemmas.List.Elements.{Contains-get_or, Contains-append_left, Contains-append_right}
 
 pub none_in : {A : Type 0} (y : A) → Contains [] y → ⊥
 none_in y (k, h, e) = absurd (omega arith)
@@ -43,3 +43,9 @@ range_in from count n low high =
     let within : n - from < count = omega arith in
     let number : from + (n - from) ≡ n = omega arith in
     (n - from, omega (arith, length-range_with_len from count), get_or-range_with_len from count (n - from) n within ∙ number)
+
+pub in_range : (from count n : ℕ) → Contains (range_with_len from count) n → (from ≤ n) × (n < from + count)
+in_range from count n (k, h, e) =
+    let within : k < count = omega (arith, length-range_with_len from count) in
+    let number : from + k ≡ n = sym (get_or-range_with_len from count k n within) ∙ e in
+    (omega arith, omega arith)

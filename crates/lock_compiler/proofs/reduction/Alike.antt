@@ -1,7 +1,7 @@
 -- Modes that are incompatible with the same ones, and the first of them.
-use Rattle.std.specs.Prelude.{◌≡◌, ℕ, zero, suc, ◌+◌, ◌<◌, ◌≤◌, Bool, true, false, not, cond, ◌&&◌, ◌⊎◌, List, [], ◌∷◌, ◌++◌, length, Contains, refl}
+use Rattle.std.specs.Prelude.{◌≡◌, ℕ, zero, suc, ◌+◌, ◌<◌, Bool, true, false, not, cond, ◌&&◌, ◌⊎◌, List, ◌++◌, length, Contains, refl}
 use Rattle.std.proofs.Common.{sym, ap, ◌∙◌, subst, inl, inr, arith}
-use Rattle.std.proofs.lemmas.Bool.{and_parts, and_from, and_left, and_right, cases_lt, cases_Bool, not-false, not-true, not_from_false, cond-true, cond-false}
+use Rattle.std.proofs.lemmas.Bool.{and_parts, and_from, and_left, and_right, cases_lt, cases_Bool, not-false, not_from_false, cond-true, cond-false}
 use Rattle.std.proofs.lemmas.List.Elements.{Contains-append_left, Contains-append_right, Contains-append_cases}
 use Rattle.lock_compiler.specs.LockModes.{Member, LockModes, members_at, incompatible}
 use Rattle.lock_compiler.specs.Reduced.{all_below, same_answer, are_compatible, is_idle_mode, tells_alike, are_alike, is_unlike, mode_stays, members_like}

@@ -41,7 +41,7 @@ abbrev pub modes_text : LockModes → List ℕ
 modes_text modes =
     line (codes "modes" ∷ decimal (length modes) ∷ []) ++ flat_map (mode_line modes) (mode_numbers modes) ++ flat_map (matrix_line modes) (mode_numbers modes)
 
--- two methods whose row no locks keep
+-- the table has no lock modes, since the row of these two methods isn't simple
 abbrev pub none_text : ℕ → ℕ → List ℕ
 none_text first second = line (codes "modes" ∷ codes "none" ∷ word_of first ∷ word_of second ∷ [])
 

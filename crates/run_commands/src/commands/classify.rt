@@ -108,8 +108,8 @@ fn row_lines(alloc: Global, kind: Kind, table: &Table) -> Result<Vec<u8>, NoMemo
     Ok(text)
 }
 
-/// Tells each row of a table, its methods, its class and its condition, and then the lock modes that keep the table,
-/// or the first row that no locks keep.
+/// Tells each row of a table, its methods, its class and its condition, and then the table's lock modes, or, where
+/// some row isn't simple, the methods of the first such row.
 pub fn classify(alloc: Global, kind: Kind, table: &Table) -> Result<Vec<u8>, NoMemory>
     ensures { IfOk result (λ text. IsClassText kind (row_of table.now) text.items) }
 {

@@ -1,5 +1,4 @@
 use Rattle.std.proofs.Common.{◌≡◌, ◌++◌, ℕ, Some, take, map}
-use Rattle.lock_compiler.specs.LockModes.{Member}
 use Rattle.lock_compiler.proofs.members.add_members.Given as goal
 
 abbrev pub invariant-loop-number : goal.invariant-loop-number

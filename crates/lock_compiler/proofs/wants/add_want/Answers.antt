@@ -1,7 +1,7 @@
 use Rattle.std.proofs.Common.{◌<◌, ◌++◌, ◌∷◌, [], List, length, refl, ap, ◌∙◌, sym, arith}
 use Rattle.lock_compiler.specs.declared.wants.MethodWants.{MethodWants}
 use Rattle.lock_compiler.specs.LockModes.{Want}
-use Rattle.lock_compiler.proofs.keeping.Lists.{IsListFor, list_at, new_list}
+use Rattle.lock_compiler.proofs.keeping.Lists.{list_at, new_list}
 use Rattle.lock_compiler.proofs.wants.add_want.Goals as goal
 
 pub index_mut-list-requires : goal.index_mut-list-requires

@@ -1,4 +1,4 @@
-use Rattle.std.proofs.Common.{sym, ap, ◌∙◌, List, None}
+use Rattle.std.proofs.Common.{ap, ◌∙◌, List}
 use Rattle.std.specs.Prelude.{slice_get}
 use Rattle.lock_compiler.specs.LockModes.{Want}
 use Rattle.lock_compiler.specs.Wants.{wanted_in}
