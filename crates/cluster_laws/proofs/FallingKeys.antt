@@ -1,5 +1,5 @@
 -- In each body the keys of the pairs along the chain fall.
-use Rattle.std.proofs.Common.{◌≡◌, ◌⊎◌, inl, inr, ℕ, zero, suc, ◌+◌, ℤ, negsuc, Bool, true, false, if◌then◌else◌, Option, Some, None, List, [], ◌∷◌, refl, sym, ap, subst, ◌∙◌}
+use Rattle.std.proofs.Common.{◌≡◌, ◌⊎◌, inl, inr, ℕ, zero, suc, ◌+◌, ℤ, pos, negsuc, Bool, true, false, if◌then◌else◌, Option, Some, None, List, [], ◌∷◌, refl, sym, ap, subst, ◌∙◌}
 use Rattle.std.specs.Prelude.{not, int_le, int_lt, ◌+ℤ◌}
 use Rattle.std.specs.Ordering.{int_eq}
 use Rattle.gx_base.specs.declared.calls.Reply.{Reply}
@@ -18,13 +18,13 @@ use Rattle.gx_base.proofs.serial.Prefixes.{FirstTurn, first_turn}
 use Rattle.kd_points.specs.NearestPoints.{some_is}
 use Rattle.clustering.specs.declared.stages.Merge.{Merge}
 use Rattle.clustering.specs.PointCalls.{nearest, at}
-use Rattle.clustering.specs.Chain.{chase, with_nearest, going_to, merging_both, weighing, merging, with_place, chain_body, chain_plan, is_of_id}
+use Rattle.clustering.specs.Chain.{chase, with_nearest, going_to, merging_both, weighing, merging, merge_of, with_place, chain_body, chain_plan, is_of_id}
 use Rattle.cluster_laws.specs.ChainKeys.{Pair, pairs_of, KeysFall, KeysFallInEach}
 use Rattle.cluster_laws.specs.ClusterRuns.{chain_operator}
 use Rattle.cluster_laws.proofs.Calls.{ArePoints, next_nearest, reply_nearest, next_at, reply_at, own_spot}
 use Rattle.cluster_laws.proofs.Keys.{falls}
 use Rattle.cluster_laws.proofs.Runs.{body-kind}
-use Rattle.cluster_laws.proofs.Takings.{Link, other_of}
+use Rattle.cluster_laws.proofs.Takings.{Link, other_of, first_read, second_read, after_reads}
 
 abbrev found_in : Plan → (ℕ → State) → List Pair
 found_in plan states = pairs_of (body plan states).outcome.steps
@@ -47,7 +47,9 @@ none_merging m states = none_pushed _ _ _
 
 none_weighing : (id : ℤ) (u v : Spot) (states : ℕ → State) → found_in (weighing id u v) states ≡ []
 unfolding body
-none_weighing id u v states = none_if _ _ _ (none_merging _ _)
+none_weighing id u v states =
+    let m : Merge = merge_of id u (first_read states u) v (second_read states u v) in
+    none_if (int_le (first_read states u +ℤ second_read states u v) (pos 0)) (merging m) (after_reads states u v) (none_merging m (after_reads states u v))
 
 none_of_both : (id : ℤ) (p c : Spot) (states : ℕ → State) (b : Bool) → found_in (if b then weighing id c p else weighing id p c) states ≡ []
 none_of_both id p c states true = none_weighing id c p states
@@ -90,7 +92,6 @@ near-falls s id onward o None c states rest e link near = last_pair o c
 near-falls s id onward o (Some q) c states rest e link near = by (int_eq q.id (negsuc 0))
   where
     by : (b : Bool) → KeysFall (after_pair o c (if not b then (c, q) ∷ found_in (if b then Done else going_to id onward o c q) states else found_in (if b then Done else going_to id onward o c q) states))
-    unfolding body
     by true = last_pair o c
     by false = goes-falls s id onward o c q states rest e link near
 

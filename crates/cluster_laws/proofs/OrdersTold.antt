@@ -73,7 +73,8 @@ module _ (n : ℕ) (most : n ≤ most_points) where
 
 order_items : (spots : List Spot) (bytes : List ℕ) (order : List Item) → AreNumberedFromZero spots → ReportsOrder spots bytes order → AllByRecursion IsOfNumber order
 order_items spots bytes order are r =
-    let few : 0 + length are.places ≤ most_points = subst (λ (n : ℕ). n ≤ most_points) (ap (λ (l : List Spot). length l) are.are ∙ length-numbered 0 are.places) are.within in
+    let places : length are.places ≤ most_points = subst (λ (n : ℕ). n ≤ most_points) (ap (λ (l : List Spot). length l) are.are ∙ length-numbered 0 are.places) are.within in
+    let few : 0 + length are.places ≤ most_points = omega arith in
     let ready : AllByRecursion IsOfNumber (start_ready spots) = subst (λ (l : List Spot). AllByRecursion IsOfNumber (start_ready l)) (sym are.are) (start_items are.places 0 few) in
     all-serial IsOfNumber (chain_operator (length spots)) (HoldsBetween (length spots)) (kept_by_bodies (length spots) are.within) (pushed_by_bodies (length spots) are.within) order
     (start_states spots) (with_items [] (start_ready spots)) r.ended (begins_so are.places spots are.are) (all-with_items IsOfNumber (start_ready spots) [] tt ready) r.in_turn
