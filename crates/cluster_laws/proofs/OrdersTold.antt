@@ -1,16 +1,14 @@
 -- Two orders of points with one report are the same.
 use Rattle.std.proofs.Common.{◌≡◌, ◌⊎◌, inl, inr, ℕ, suc, ◌+◌, ◌≤◌, ℤ, pos, Bool, true, false, if◌then◌else◌, Option, Some, None, List, [], ◌∷◌, ◌++◌, length, refl, sym, ap, subst, ◌∙◌, append_assoc, arith}
-use Rattle.std.specs.Prelude.{◌+ℤ◌, FitsSigned, int_le}
-use Rattle.std.specs.Int.{w64}
+use Rattle.std.specs.Prelude.{◌+ℤ◌, int_le}
 use Rattle.std.specs.List.{AllByRecursion, flat_map, range_with_len}
 use Rattle.std.proofs.lemmas.Bool.{and_parts}
 use Rattle.std.proofs.lemmas.Int.{ints}
 use Rattle.std.proofs.lemmas.List.Concat.{flat_map-cons}
-use Rattle.gx_base.specs.declared.calls.Reply.{Reply}
 use Rattle.gx_base.specs.declared.calls.Spot.{Spot}
 use Rattle.gx_base.specs.declared.items.Item.{Item}
 use Rattle.gx_base.specs.Plans.{Plan, Push, Done}
-use Rattle.gx_base.specs.SerialIterations.{body, Ended, serial}
+use Rattle.gx_base.specs.SerialIterations.{body}
 use Rattle.gx_base.specs.States.{State}
 use Rattle.gx_base.specs.Worklists.{has_item, with_items}
 use Rattle.gx_base.proofs.serial.Prefixes.{FirstTurn, first_turn}
@@ -18,7 +16,7 @@ use Rattle.clustering.specs.PointRows.{Place}
 use Rattle.clustering.specs.PointFiles.{numbered, most_points, IsReadable}
 use Rattle.clustering.specs.Chain.{id_item, is_of_id, chain_body, chain_plan, weighing, merging, merge_of}
 use Rattle.clustering.specs.CloudRooms.{point_in}
-use Rattle.clustering.specs.ClusterReports.{commit_line, if_gone, if_left, gone_line, there_line, cluster_report}
+use Rattle.clustering.specs.ClusterReports.{commit_line, if_gone, if_left, gone_line, there_line}
 use Rattle.clustering.specs.Starts.{start_states, start_ready}
 use Rattle.told_orders.specs.ItemLines.{BeginsOtherwise, BeginsWithLines}
 use Rattle.told_orders.proofs.Lines.{IsOfNumber, lines_tell, number_lines}
