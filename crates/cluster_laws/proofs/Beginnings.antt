@@ -139,7 +139,7 @@ among (p ∷ places) m k l less = by (cases_lt m k) (λ more. among places (suc 
         let is : k ≡ m = omega arith in
         subst (λ (x : ℕ). has_item (start_ready (numbered m (p ∷ places))) (id_item (pos x)) ≡ true) (sym is) (first_of (id_item (pos m)) (start_ready (numbered (suc m) places)))
 
-length-numbered : (m : ℕ) (places : List Place) → length (numbered m places) ≡ length places
+pub length-numbered : (m : ℕ) (places : List Place) → length (numbered m places) ≡ length places
 length-numbered m [] = refl
 length-numbered m (p ∷ places) = ap suc (length-numbered (suc m) places)
 

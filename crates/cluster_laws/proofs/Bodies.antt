@@ -108,22 +108,34 @@ module _ (n : ℕ) (most : n ≤ 20000) where
   begun id states found cloud there =
       looked 0 (at id) (λ reply. with_place id (n + 1) reply) states (at_reply found) (next_at (states 0) id cloud.are.are_points) (reply_at (states 0) id cloud.are.are_points ∙ ap at_reply there)
 
-  kept_by_id : (id : ℤ) (states : ℕ → State) (ready : List Item) → HoldsBetween n states ready → Left n (chain_body id (n + 1)) (id_item id) states ready
-  kept_by_id id states ready h = by (spot_at (states 0) id) refl
+  -- its point isn't there or is alone, and nothing is done
+  abbrev pub IsIdle : ℤ → (ℕ → State) → Type 0
+  IsIdle id states = ((spot_at (states 0) id ≡ None) ⊎ IsSingle (states 0)) × Same (chain_body id (n + 1)) Done states
+
+  -- a body does nothing, or comes to two points that are each other's nearest
+  pub goes_by_id : (id : ℤ) (states : ℕ → State) (cloud : IsCloud n states) → IsIdle id states ⊎ Meets (states 0) n cloud.are id (chain_body id (n + 1)) states
+  goes_by_id id states cloud = by (spot_at (states 0) id) refl
     where
-      by : (found : Option Spot) → spot_at (states 0) id ≡ found → Left n (chain_body id (n + 1)) (id_item id) states ready
-      by None there =
-          idle n (chain_body id (n + 1)) (id_item id) states ready (begun id states None h.0 there) h.0
-          (waits_without (states 0) ready (id_item id) (λ x r here e. some_none r (sym there ∙ ap (spot_at (states 0)) (id_of id x e) ∙ here)) h.1)
-      by (Some c) there = from (begins (states 0) n h.0.are id c states refl (ap (spot_at (states 0)) (own_id (states 0) id c there) ∙ there))
+      by : (found : Option Spot) → spot_at (states 0) id ≡ found → IsIdle id states ⊎ Meets (states 0) n cloud.are id (chain_body id (n + 1)) states
+      by None there = inl (inl there, begun id states None cloud there)
+      by (Some c) there = from (begins (states 0) n cloud.are id c states refl (ap (spot_at (states 0)) (own_id (states 0) id c there) ∙ there))
         where
           on : Same (chain_body id (n + 1)) (chase id (suc n) None c) states
-          on = subst (λ (plan : Plan). Same (chain_body id (n + 1)) plan states) (placed (states 0) id n c there) (begun id states (Some c) h.0 there)
+          on = subst (λ (plan : Plan). Same (chain_body id (n + 1)) plan states) (placed (states 0) id n c there) (begun id states (Some c) cloud there)
 
-          from : ((Alone (states 0) n h.0.are c × Same (chase id (suc n) None c) Done states) ⊎ Meets (states 0) n h.0.are id (chase id (suc n) None c) states) → Left n (chain_body id (n + 1)) (id_item id) states ready
-          from (inl alone) =
-              idle n (chain_body id (n + 1)) (id_item id) states ready (same_then (chain_body id (n + 1)) (chase id (suc n) None c) Done states on alone.1) h.0 (inr (single_of (states 0) n h.0.are c alone.0))
-          from (inr found) = merged n most id (chain_body id (n + 1)) states ready h.0 (meets_as (states 0) n h.0.are id _ _ states on found) h.1
+          from : ((Alone (states 0) n cloud.are c × Same (chase id (suc n) None c) Done states) ⊎ Meets (states 0) n cloud.are id (chase id (suc n) None c) states)
+              → IsIdle id states ⊎ Meets (states 0) n cloud.are id (chain_body id (n + 1)) states
+          from (inl alone) = inl (inr (single_of (states 0) n cloud.are c alone.0), same_then (chain_body id (n + 1)) (chase id (suc n) None c) Done states on alone.1)
+          from (inr found) = inr (meets_as (states 0) n cloud.are id _ _ states on found)
+
+  kept_by_id : (id : ℤ) (states : ℕ → State) (ready : List Item) → HoldsBetween n states ready → Left n (chain_body id (n + 1)) (id_item id) states ready
+  kept_by_id id states ready h = from (goes_by_id id states h.0)
+    where
+      from : IsIdle id states ⊎ Meets (states 0) n h.0.are id (chain_body id (n + 1)) states → Left n (chain_body id (n + 1)) (id_item id) states ready
+      from (inl (inl none, same)) =
+          idle n (chain_body id (n + 1)) (id_item id) states ready same h.0 (waits_without (states 0) ready (id_item id) (λ x r here e. some_none r (sym none ∙ ap (spot_at (states 0)) (id_of id x e) ∙ here)) h.1)
+      from (inl (inr single, same)) = idle n (chain_body id (n + 1)) (id_item id) states ready same h.0 (inr single)
+      from (inr found) = merged n most id (chain_body id (n + 1)) states ready h.0 found h.1
 
   pub kept_by_bodies : (item : Item) (states : ℕ → State) (ready : List Item) → HoldsBetween n states ready → Left n (chain_plan n item) item states ready
   kept_by_bodies item states ready h = by (is_of_id item) refl

@@ -10,4 +10,6 @@ pub mod Clouds
 pub mod Bodies
 pub mod Beginnings
 pub mod Ends
+pub mod FallingKeys
+pub mod OrdersTold
 pub mod RunLaws

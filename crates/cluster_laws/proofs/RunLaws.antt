@@ -11,11 +11,13 @@ use Rattle.gx_base.proofs.CallerLemmas.{IsSerialRun-split}
 use Rattle.gx_base.proofs.serial.Prefixes.{FirstTurn, first_turn, some_same}
 use Rattle.clustering.specs.PointFiles.{IsReadable}
 use Rattle.clustering.specs.Starts.{start_states, start_ready}
+use Rattle.cluster_laws.specs.ChainKeys.{KeysFallInEach}
 use Rattle.cluster_laws.specs.ClusterRuns.{chain_operator, IsRunOn, MergesMutualPairs, IsUnbounded, EndsInOne}
 use Rattle.cluster_laws.specs.MutualPairs.{AreNoneOrMutual, taken_out}
 use Rattle.cluster_laws.proofs.Beginnings.{begins_so, start-are_points}
 use Rattle.cluster_laws.proofs.Bodies.{HoldsBetween, kept_by_bodies, unbounded}
 use Rattle.cluster_laws.proofs.Ends.{ends_in_one}
+use Rattle.cluster_laws.proofs.FallingKeys.{all-fall}
 use Rattle.cluster_laws.proofs.Runs.{body-kind, kept}
 use Rattle.cluster_laws.proofs.Takings.{chain-good}
 
@@ -50,3 +52,6 @@ merge_mutual spots commits ended run front rear c before is first =
     let here : c.outcome ≡ ran.outcome = cc in
     subst (λ (e : Ended). AreNoneOrMutual (e.states 0) (taken_out c.outcome.steps)) (sym same)
     (subst (λ (o : Outcome). AreNoneOrMutual (split.between.states 0) (taken_out o.steps)) (sym here) (chain-good (length spots) c.item split.between.states (still_points spots front split.between split.first_run)))
+
+pub keys_fall : (spots : List Spot) (commits : List WholeCommit) (ended : Ended) → IsRunOn spots commits ended → KeysFallInEach commits
+keys_fall spots commits ended run = all-fall (length spots) commits (start_states spots) (with_items [] (start_ready spots)) ended (start-are_points spots) run.in_turn run.recorded

@@ -66,13 +66,13 @@ merging-good s m states k e apart pair =
     (both_taken s _ _ m.first m.second first second pair)
 
 -- the two weights that are read, and what is left then
-abbrev first_read : (ℕ → State) → Spot → ℤ
+abbrev pub first_read : (ℕ → State) → Spot → ℤ
 first_read states u = (reply_to (states 1) (read u.id)).p
 
-abbrev second_read : (ℕ → State) → Spot → Spot → ℤ
+abbrev pub second_read : (ℕ → State) → Spot → Spot → ℤ
 second_read states u v = (reply_to (next_state (states 1) (read u.id)) (read v.id)).p
 
-abbrev after_reads : (ℕ → State) → Spot → Spot → ℕ → State
+abbrev pub after_reads : (ℕ → State) → Spot → Spot → ℕ → State
 after_reads states u v = put (put states 1 (next_state (states 1) (read u.id))) 1 (next_state (next_state (states 1) (read u.id)) (read v.id))
 
 weighing-good : (s : State) (id : ℤ) (u v : Spot) (states : ℕ → State) → ArePoints s → states 0 ≡ s → int_eq v.id u.id ≡ false → AreMutual s u v → Good s (weighing id u v) states

@@ -1,2 +1,4 @@
 pub mod MutualPairs
+pub mod ChainKeys
 pub mod ClusterRuns
+pub mod OrderLaw

@@ -1,4 +1,2 @@
-pub mod ReportLines
-pub mod NodeOrders
 pub mod DischargePushes
 pub mod OrdersTold

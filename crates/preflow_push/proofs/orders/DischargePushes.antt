@@ -13,14 +13,14 @@ use Rattle.preflow_push.specs.Networks.{Net}
 use Rattle.preflow_push.specs.Touching.{touching_from}
 use Rattle.preflow_push.specs.Discharge as discharge
 use Rattle.preflow_push.specs.Discharge.{Terminals, Onward, node_item, names_node, terminals, residual, is_just_above, is_terminal, lesser, rise, push_unless, unless_spent, along, node_plan, with_excess, discharge_plan}
-use Rattle.preflow_push.proofs.orders.ReportLines.{IsOfNode}
-use Rattle.preflow_push.proofs.orders.NodeOrders.{PushesOnly}
+use Rattle.told_orders.proofs.Lines.{IsOfNumber}
+use Rattle.told_orders.proofs.Orders.{PushesOnly}
 
-pub of_node : (u : ℤ) → FitsSigned w64 u → IsOfNode (node_item u)
+pub of_node : (u : ℤ) → FitsSigned w64 u → IsOfNumber (node_item u)
 of_node u fits = record { is = refl; fits = fits }
 
 abbrev PushesNodes : Plan → Type 0
-PushesNodes plan = PushesOnly IsOfNode plan
+PushesNodes plan = PushesOnly IsOfNumber plan
 
 abbrev Goes : Onward → Type 0
 Goes onward = (e : ℤ) (least : Option ℤ) → PushesNodes (onward e least)
@@ -80,5 +80,5 @@ touches_fit (arc ∷ arcs) n node all =
     touch_by (int_eq arc.from node) (int_eq arc.to node) (record { number = pos n; other = arc.to; cap = arc.cap; leaves = true }) (record { number = pos n; other = arc.from; cap = arc.cap; leaves = false })
     (touching_from (suc n) node arcs) all.0.1 all.0.0 (touches_fit arcs (suc n) node all.1)
 
-pub discharge_pushes : (net : Net) → AllByRecursion HasEnds net.arcs → (item : Item) → IsOfNode item → PushesOnly IsOfNode (discharge_plan net item)
+pub discharge_pushes : (net : Net) → AllByRecursion HasEnds net.arcs → (item : Item) → IsOfNumber item → PushesOnly IsOfNumber (discharge_plan net item)
 discharge_pushes net ends item is = either (names_node net.nodes item) _ Done (node_pushes (terminals net) item.k0 _ is.fits (touches_fit net.arcs 1 item.k0 ends)) tt

@@ -1,5 +1,5 @@
 -- Two orders with one report are the same.
-use Rattle.std.specs.Prelude.{◌≡◌, ℕ, suc, ◌≤◌, ℤ, pos, ◌≤ℤ◌, List, [], ◌∷◌, ◌++◌, Contains, FitsSigned, refl}
+use Rattle.std.specs.Prelude.{◌≡◌, ℕ, suc, ◌≤◌, ℤ, pos, ◌≤ℤ◌, List, [], ◌∷◌, ◌++◌, ⊤, Contains, FitsSigned, refl}
 use Rattle.std.proofs.Common.{sym, ◌∙◌, ap, subst, append_assoc, arith}
 use Rattle.std.proofs.lemmas.Int.{ints}
 use Rattle.std.specs.Int.{w64}
@@ -19,8 +19,9 @@ use Rattle.preflow_push.specs.Starts.{start_states, start_ready}
 use Rattle.preflow_push.specs.StartLaw.{IsOfExcess}
 use Rattle.preflow_push.specs.OrderLaw.{HasNodesOfWords, ReportsOrder}
 use Rattle.preflow_push.proofs.start_states.ReadyLaws.{is_of_excess}
-use Rattle.preflow_push.proofs.orders.ReportLines.{IsOfNode, lines_tell}
-use Rattle.preflow_push.proofs.orders.NodeOrders.{all-with_items, all-serial}
+use Rattle.told_orders.specs.ItemLines.{BeginsWithLines}
+use Rattle.told_orders.proofs.Lines.{IsOfNumber, lines_tell, number_lines}
+use Rattle.told_orders.proofs.Orders.{body-pushes, all-with_items, all-serial}
 use Rattle.preflow_push.proofs.orders.DischargePushes.{of_node, HasEnds, discharge_pushes}
 
 -- ---- ready at the start
@@ -28,19 +29,20 @@ use Rattle.preflow_push.proofs.orders.DischargePushes.{of_node, HasEnds, dischar
 between : (q n : ℤ) → pos 1 ≤ℤ q → q ≤ℤ n → FitsSigned w64 n → FitsSigned w64 q
 between q n low high fits = omega (arith, ints, low, high, fits)
 
-each_of : (xs : List Item) → ((item : Item) → Contains xs item → IsOfNode item) → AllByRecursion IsOfNode xs
+each_of : (xs : List Item) → ((item : Item) → Contains xs item → IsOfNumber item) → AllByRecursion IsOfNumber xs
 each_of [] each = tt
 each_of (x ∷ xs) each = (each x (0, omega arith, refl), each_of xs (λ item c. each item (suc c.0, let h = c.1 in omega arith, c.2)))
 
-start_item : (net : Net) (item : Item) → FitsSigned w64 net.nodes → IsOfExcess net (start_states net) item → IsOfNode item
-start_item net item fits o = subst IsOfNode (sym o.is) (of_node o.node (between o.node net.nodes o.from_one o.within fits))
+start_item : (net : Net) (item : Item) → FitsSigned w64 net.nodes → IsOfExcess net (start_states net) item → IsOfNumber item
+start_item net item fits o = subst IsOfNumber (sym o.is) (of_node o.node (between o.node net.nodes o.from_one o.within fits))
 
-start_items : (net : Net) → FitsSigned w64 net.nodes → AllByRecursion IsOfNode (with_items [] (start_ready net))
-start_items net fits = all-with_items IsOfNode (start_ready net) [] tt (each_of (start_ready net) (λ item c. start_item net item fits (is_of_excess net item c)))
+start_items : (net : Net) → FitsSigned w64 net.nodes → AllByRecursion IsOfNumber (with_items [] (start_ready net))
+start_items net fits = all-with_items IsOfNumber (start_ready net) [] tt (each_of (start_ready net) (λ item c. start_item net item fits (is_of_excess net item c)))
 
-order_items : (net : Net) (bytes : List ℕ) (order : List Item) → HasNodesOfWords net → ReportsOrder net bytes order → AllByRecursion IsOfNode order
+order_items : (net : Net) (bytes : List ℕ) (order : List Item) → HasNodesOfWords net → ReportsOrder net bytes order → AllByRecursion IsOfNumber order
 order_items net bytes order words r =
-    all-serial IsOfNode (discharge_operator net) (discharge_pushes net words.ends) order (start_states net) (with_items [] (start_ready net)) r.ended (start_items net words.nodes) r.in_turn
+    all-serial IsOfNumber (discharge_operator net) (λ states ready. ⊤) (λ item states ready h. h) (λ item states ready h is. body-pushes IsOfNumber ((discharge_operator net).plan item) states (discharge_pushes net words.ends item is)) order
+    (start_states net) (with_items [] (start_ready net)) r.ended tt (start_items net words.nodes) r.in_turn
 
 -- ---- the report
 
@@ -50,11 +52,18 @@ report_parts net order states more =
     append_assoc (flat_map commit_line order ++ value_line (excess_in states net.sink)) (arc_lines states 1 net.arcs) more
     ∙ append_assoc (flat_map commit_line order) (value_line (excess_in states net.sink)) (arc_lines states 1 net.arcs ++ more)
 
+-- the lines of commits end with the line of the value: c (99) is not s (115)
+lines_of_order : (net : Net) (bytes : List ℕ) (order : List Item) → ReportsOrder net bytes order → BeginsWithLines 99 commit_line bytes order
+lines_of_order net bytes order r = record {
+  more = value_line (excess_in r.ended.states net.sink) ++ (arc_lines r.ended.states 1 net.arcs ++ r.more);
+  begins = r.begins ∙ report_parts net order r.ended.states r.more;
+  told_apart = refl;
+}
+
 pub orders_told : (net : Net) → HasNodesOfWords net → (bytes : List ℕ) (order other : List Item) → ReportsOrder net bytes order → ReportsOrder net bytes other → order ≡ other
 orders_told net words bytes order other p q =
-    lines_tell order other (excess_in p.ended.states net.sink) (excess_in q.ended.states net.sink) (arc_lines p.ended.states 1 net.arcs ++ p.more) (arc_lines q.ended.states 1 net.arcs ++ q.more)
-    (order_items net bytes order words p) (order_items net bytes other words q)
-    (sym (report_parts net order p.ended.states p.more) ∙ sym p.begins ∙ q.begins ∙ report_parts net other q.ended.states q.more)
+    lines_tell IsOfNumber 99 commit_line (number_lines 99 (32 ∷ 105 ∷ 32 ∷ []) refl) bytes order other (order_items net bytes order words p) (order_items net bytes other words q) (lines_of_order net bytes order p)
+    (lines_of_order net bytes other q)
 
 -- ---- networks of files
 

@@ -1,5 +1,5 @@
 -- What holds of each ready item and of each push of a body holds of each item of an order.
-use Rattle.std.specs.Prelude.{◌≡◌, ℕ, Bool, true, false, ◌||◌, not, if◌then◌else◌, Option, Some, None, List, [], ◌∷◌, ⊤, refl}
+use Rattle.std.specs.Prelude.{◌≡◌, ℕ, Bool, true, false, ◌||◌, not, if◌then◌else◌, Some, List, [], ◌∷◌, ⊤, refl}
 use Rattle.std.proofs.Common.{subst}
 use Rattle.std.proofs.lemmas.Bool.{and_parts}
 use Rattle.std.specs.List.{AllByRecursion}
@@ -10,9 +10,10 @@ use Rattle.gx_base.specs.Steps.{next_state, reply_to}
 use Rattle.gx_base.specs.Plans.{Plan, Call, Push, Done, Operator}
 use Rattle.gx_base.specs.Replays.{put}
 use Rattle.gx_base.specs.Outcomes.{Outcome}
-use Rattle.gx_base.specs.Worklists.{item_cmp, same_item, is_before, has_item, is_least, without_item, without_items, with_item, with_items}
-use Rattle.gx_base.specs.SerialIterations.{body, Ended, may_commit, ready_after, with_first, serial}
-use Rattle.commit_book.proofs.ready.ReadySets.{is_equal, item_equal}
+use Rattle.gx_base.specs.Worklists.{same_item, is_before, has_item, is_least, without_item, without_items, with_item, with_items}
+use Rattle.gx_base.specs.SerialIterations.{body, Ended, ready_after, serial}
+use Rattle.gx_base.proofs.serial.Prefixes.{FirstTurn, first_turn}
+use Rattle.commit_book.proofs.ready.RisingItems.{same_is}
 
 -- whatever the replies, a plan pushes only such items
 abbrev pub PushesOnly : (Item → Type 0) → Plan → Type 0
@@ -23,7 +24,7 @@ PushesOnly P Done = ⊤
 module _ (P : Item → Type 0) where
   -- ---- bodies
 
-  body-pushes : (plan : Plan) (states : ℕ → State) → PushesOnly P plan → AllByRecursion P (body plan states).outcome.pushes
+  pub body-pushes : (plan : Plan) (states : ℕ → State) → PushesOnly P plan → AllByRecursion P (body plan states).outcome.pushes
   unfolding body
   body-pushes (Call room call goes_on) states h = body-pushes (goes_on (reply_to (states room) call)) (put states room (next_state (states room) call)) (h (reply_to (states room) call))
   body-pushes (Push item rest) states h = (h.0, body-pushes rest states h.1)
@@ -61,7 +62,7 @@ module _ (P : Item → Type 0) where
   all-without_items (x ∷ xs) ys all = all-without_items xs (without_item ys x) (all-without_item ys x all)
 
   found_by : (b : Bool) (y x : Item) (ys : List Item) → same_item y x ≡ b → (b || has_item ys x) ≡ true → P y → (has_item ys x ≡ true → P x) → P x
-  found_by true y x ys s e p later = subst P (item_equal y x (is_equal (item_cmp y x) s)) p
+  found_by true y x ys s e p later = subst P (same_is y x s) p
   found_by false y x ys s e p later = later e
 
   all-has_item : (ys : List Item) (x : Item) → AllByRecursion P ys → has_item ys x ≡ true → P x
@@ -69,33 +70,19 @@ module _ (P : Item → Type 0) where
   all-has_item [] x all e = absurd (cc)
   all-has_item (y ∷ ys) x all e = found_by (same_item y x) y x ys refl e all.0 (all-has_item ys x all.1)
 
-  -- ---- orders
-
   all-ready_after : (ready : List Item) (x : Item) (o : Outcome) → AllByRecursion P ready → AllByRecursion P o.pushes → AllByRecursion P (ready_after ready x o)
   all-ready_after ready x o all pushes = all-with_items o.pushes (without_items (without_item ready x) o.withdrawn) (all-without_items o.withdrawn (without_item ready x) (all-without_item ready x all)) pushes
 
-  -- the first item of an order may commit, and the rest goes on
-  record GoesOn (op : Operator) (states : ℕ → State) (ready : List Item) (x : Item) (xs : List Item) : Type 0 where
-    pub has : has_item ready x ≡ true
-    pub rest : Ended
-    pub after : serial op (body (op.plan x) states).states (ready_after ready x (body (op.plan x) states).outcome) xs ≡ Some rest
+  -- ---- orders
 
-  goes_by : (op : Operator) (states : ℕ → State) (ready : List Item) (x : Item) (xs : List Item) (ended : Ended) (b : Bool) (t : Option Ended) → may_commit op.ordered ready x ≡ b
-      → serial op (body (op.plan x) states).states (ready_after ready x (body (op.plan x) states).outcome) xs ≡ t
-      → (if b then with_first (body (op.plan x) states).outcome t else None) ≡ Some ended → GoesOn op states ready x xs
-  goes_by op states ready x xs ended false t m s e = absurd (cc)
-  goes_by op states ready x xs ended true None m s e = absurd (cc)
-  goes_by op states ready x xs ended true (Some rest) m s e = record { has = (and_parts (has_item ready x) (not op.ordered || is_least ready x) m).0; rest = rest; after = s }
-
-  goes_on : (op : Operator) (states : ℕ → State) (ready : List Item) (x : Item) (xs : List Item) (ended : Ended) → serial op states ready (x ∷ xs) ≡ Some ended → GoesOn op states ready x xs
-  unfolding serial
-  goes_on op states ready x xs ended e = goes_by op states ready x xs ended (may_commit op.ordered ready x) _ refl refl e
-
-  pub all-serial : (op : Operator) → ((item : Item) → P item → PushesOnly P (op.plan item)) → (order : List Item) (states : ℕ → State) (ready : List Item) (ended : Ended) → AllByRecursion P ready
-      → serial op states ready order ≡ Some ended → AllByRecursion P order
-  all-serial op each [] states ready ended all e = tt
-  all-serial op each (x ∷ xs) states ready ended all e =
-      let turn : GoesOn op states ready x xs = goes_on op states ready x xs ended e in
-      let here : P x = all-has_item ready x all turn.has in
-      let next : AllByRecursion P (ready_after ready x (body (op.plan x) states).outcome) = all-ready_after ready x (body (op.plan x) states).outcome all (body-pushes (op.plan x) states (each x here)) in
-      (here, all-serial op each xs (body (op.plan x) states).states (ready_after ready x (body (op.plan x) states).outcome) turn.rest next turn.after)
+  -- where bodies keep what holds between them, and push such items then
+  pub all-serial : (op : Operator) (Holds : (ℕ → State) → List Item → Type 0)
+      → ((item : Item) (states : ℕ → State) (ready : List Item) → Holds states ready → Holds (body (op.plan item) states).states (ready_after ready item (body (op.plan item) states).outcome))
+      → ((item : Item) (states : ℕ → State) (ready : List Item) → Holds states ready → P item → AllByRecursion P (body (op.plan item) states).outcome.pushes)
+      → (order : List Item) (states : ℕ → State) (ready : List Item) (ended : Ended) → Holds states ready → AllByRecursion P ready → serial op states ready order ≡ Some ended → AllByRecursion P order
+  all-serial op Holds keeps pushes [] states ready ended h all e = tt
+  all-serial op Holds keeps pushes (x ∷ xs) states ready ended h all e =
+      let turn : FirstTurn op states ready x xs ended = first_turn op states ready x xs ended e in
+      let here : P x = all-has_item ready x all (and_parts (has_item ready x) (not op.ordered || is_least ready x) turn.may).0 in
+      let next : AllByRecursion P (ready_after ready x (body (op.plan x) states).outcome) = all-ready_after ready x (body (op.plan x) states).outcome all (pushes x states ready h here) in
+      (here, all-serial op Holds keeps pushes xs (body (op.plan x) states).states (ready_after ready x (body (op.plan x) states).outcome) turn.rest (keeps x states ready h) next turn.goes_on)
