@@ -1,3 +1,5 @@
 pub mod Needs
 pub mod Compiled
 pub mod Reduced
+pub mod Foreign
+pub mod Fewest

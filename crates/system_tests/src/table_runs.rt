@@ -3,6 +3,7 @@
 ghost use Rattle.std.specs.Prelude.{◌≤◌};
 
 use galois_run::{Status, TableFault, run_turns, status_line};
+use gx_base::What;
 use gx_io::{MemFiles, MemSink};
 use std::alloc::Global;
 use std::test::Fail;
@@ -75,6 +76,25 @@ const LOOSE: &str = "type flow
 excess gain : true
 ";
 
+/// Runs the program on these words and files, where the reads of these numbers fail.
+fn run_with(
+    alloc: Global,
+    words: &[&str],
+    held: Vec<(String, Vec<u8>)>,
+    failing: &[u64],
+) -> Result<(Status, Vec<u8>), Fail> {
+    let mut all = Vec::new(alloc);
+    for word in words {
+        all.push(String::from_str(alloc, word)?)?;
+    }
+    let mut files = MemFiles::new(held, failing.to_vec(alloc)?);
+    let Ok(mut sink) = MemSink::new(alloc, 65_536, Vec::new(alloc)) else {
+        return Err("no memory".into());
+    };
+    let status = run_turns(alloc, &all, &mut files, &mut sink);
+    Ok((status, sink.bytes().to_vec(alloc)?))
+}
+
 /// Runs the program on these words, where the files `net` and `own` hold these texts, and the reads of these numbers
 /// fail.
 fn run_on(
@@ -84,10 +104,6 @@ fn run_on(
     own: &str,
     failing: &[u64],
 ) -> Result<(Status, Vec<u8>), Fail> {
-    let mut all = Vec::new(alloc);
-    for word in words {
-        all.push(String::from_str(alloc, word)?)?;
-    }
     let mut held = Vec::new(alloc);
     held.push((
         String::from_str(alloc, "net")?,
@@ -97,12 +113,7 @@ fn run_on(
         String::from_str(alloc, "own")?,
         own.as_bytes().to_vec(alloc)?,
     ))?;
-    let mut files = MemFiles::new(held, failing.to_vec(alloc)?);
-    let Ok(mut sink) = MemSink::new(alloc, 65_536, Vec::new(alloc)) else {
-        return Err("no memory".into());
-    };
-    let status = run_turns(alloc, &all, &mut files, &mut sink);
-    Ok((status, sink.bytes().to_vec(alloc)?))
+    run_with(alloc, words, held, failing)
 }
 
 /// Whether these words end well, and write this.
@@ -192,6 +203,29 @@ fn both_files_are_read_before_either_is_judged(rt: HostRuntime) -> Result<(), Fa
     assert!(rt; status == Status::ReadFault);
     let (status, _) = run_on(alloc, &UNDER_OWN, FOUR_NODES, APART, &[1])?;
     assert!(rt; status == Status::ReadFault);
+    Ok(())
+}
+
+/// One byte more than a file may have.
+const TOO_MANY_BYTES: usize = 67_108_865;
+
+/// How `flow` under a table of the user's own ends, where the one file that there is has too many bytes.
+fn status_beside(alloc: Global, name: &str) -> Result<Status, Fail> {
+    let mut held = Vec::new(alloc);
+    held.push((
+        String::from_str(alloc, name)?,
+        Vec::from_elem(alloc, b'\n', TOO_MANY_BYTES)?,
+    ))?;
+    let (status, _) = run_with(alloc, &UNDER_OWN, held, &[])?;
+    Ok(status)
+}
+
+#[test]
+fn the_conditions_are_read_before_the_network(rt: HostRuntime) -> Result<(), Fail> {
+    let alloc = rt.alloc();
+    let what = What::File;
+    assert!(rt; status_beside(alloc, "own")? == Status::TooLarge { what });
+    assert!(rt; status_beside(alloc, "net")? == Status::ReadFault);
     Ok(())
 }
 

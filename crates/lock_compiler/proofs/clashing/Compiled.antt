@@ -99,7 +99,7 @@ fails _ first second seen h e = absurd (cc)
 no_member : Member
 no_member = (0, None)
 
-single_members : (rows : Rows) (all xs : List Member) (k : ℕ) (d : Member) → k < length xs → members_at (map (single_mode rows all) xs) k ≡ get_or xs k d ∷ []
+pub single_members : (rows : Rows) (all xs : List Member) (k : ℕ) (d : Member) → k < length xs → members_at (map (single_mode rows all) xs) k ≡ get_or xs k d ∷ []
 single_members rows all xs k d h = ap (λ (mode : LockMode). mode.members) (get_or-map (single_mode rows all) xs k d no_mode h)
 
 single_refuses : (rows : Rows) (all : List Member) (h a : ℕ) (d : Member) → h < length all → a < length all

@@ -54,7 +54,7 @@ pub record IsWanted (number : ℕ) (modes : LockModes) (method : ℕ) (want : Wa
   pub named : want.0 ≡ number + mode
   pub member : Contains (members_at modes mode) (method, want.1)
 
-in_from : (number : ℕ) (modes : LockModes) (method : ℕ) (want : Want) → Contains (wants_from number modes method) want → IsWanted number modes method want
+pub in_from : (number : ℕ) (modes : LockModes) (method : ℕ) (want : Want) → Contains (wants_from number modes method) want → IsWanted number modes method want
 in_from number [] method want h = absurd (none_in want h)
 in_from number (mode ∷ modes) method want h =
     elim (Contains-append_cases (wants_among number mode.members method) (wants_from (number + 1) modes method) want h) [

@@ -17,19 +17,19 @@ use Rattle.lock_compiler.proofs.clashing.Needs.{ClashAt, clash_parts, clash_from
 use Rattle.lock_compiler.proofs.clashing.Compiled.{compiled_clash}
 
 -- the mode that stands at a place among those that stay
-abbrev mode_at : LockModes → ℕ → ℕ
+abbrev pub mode_at : LockModes → ℕ → ℕ
 mode_at modes place = get_or (staying modes) place 0
 
-merged_members : (modes : LockModes) (place : ℕ) → place < length (staying modes) → members_at (reduced modes) place ≡ members_like modes (mode_at modes place) (length modes)
+pub merged_members : (modes : LockModes) (place : ℕ) → place < length (staying modes) → members_at (reduced modes) place ≡ members_like modes (mode_at modes place) (length modes)
 merged_members modes place h = ap (λ (mode : LockMode). mode.members) (get_or-map (merged_mode modes) (staying modes) place 0 no_mode h)
 
-merged_refuses : (modes : LockModes) (held asked : ℕ) → held < length (staying modes) → asked < length (staying modes) → incompatible (reduced modes) held asked ≡ incompatible modes (mode_at modes held) (mode_at modes asked)
+pub merged_refuses : (modes : LockModes) (held asked : ℕ) → held < length (staying modes) → asked < length (staying modes) → incompatible (reduced modes) held asked ≡ incompatible modes (mode_at modes held) (mode_at modes asked)
 merged_refuses modes held asked h a =
     ap (λ (mode : LockMode). get_or mode.refuses asked false) (get_or-map (merged_mode modes) (staying modes) held 0 no_mode h)
     ∙ get_or-map (incompatible modes (mode_at modes held)) (staying modes) asked 0 false a
 
 -- modes that are like two others are as incompatible
-alike_refuse : (modes : LockModes) (x y u v : ℕ) → are_alike modes x u ≡ true → are_alike modes y v ≡ true → y < length modes → u < length modes → incompatible modes x y ≡ incompatible modes u v
+pub alike_refuse : (modes : LockModes) (x y u v : ℕ) → are_alike modes x u ≡ true → are_alike modes y v ≡ true → y < length modes → u < length modes → incompatible modes x y ≡ incompatible modes u v
 alike_refuse modes x y u v p q y_below u_below =
     let a : AlikeAt modes x u y = alike_at modes x u y p y_below in
     let b : AlikeAt modes y v u = alike_at modes y v u q u_below in
@@ -61,12 +61,12 @@ down modes first second c =
     }
 
 -- where a mode that stays stands
-record StandsAt (modes : LockModes) (mode : ℕ) : Type 0 where
-  place : ℕ
-  below : place < length (staying modes)
-  is : mode_at modes place ≡ mode
+pub record StandsAt (modes : LockModes) (mode : ℕ) : Type 0 where
+  pub place : ℕ
+  pub below : place < length (staying modes)
+  pub is : mode_at modes place ≡ mode
 
-stands_at : (modes : LockModes) (mode : ℕ) → Contains (staying modes) mode → StandsAt modes mode
+pub stands_at : (modes : LockModes) (mode : ℕ) → Contains (staying modes) mode → StandsAt modes mode
 stands_at modes mode (k, lt, e) = record { place = k; below = lt; is = get_or_default (staying modes) k 0 mode lt ∙ e }
 
 up : (modes : LockModes) (first second : Made) → ClashAt modes first second → ClashAt (reduced modes) first second

@@ -29,14 +29,14 @@ alike_at modes x y other h lt =
     (all_below-at (tells_alike modes x y) (length modes) other h lt) in
     record { held = same_answer-is (incompatible modes x other) (incompatible modes y other) p.0; asked = same_answer-is (incompatible modes other x) (incompatible modes other y) p.1 }
 
-alike_from : (modes : LockModes) (x y : ℕ) → ((other : ℕ) → other < length modes → AlikeAt modes x y other) → are_alike modes x y ≡ true
+pub alike_from : (modes : LockModes) (x y : ℕ) → ((other : ℕ) → other < length modes → AlikeAt modes x y other) → are_alike modes x y ≡ true
 alike_from modes x y f =
     all_below-from (tells_alike modes x y) (length modes) (λ other lt.
     let a : AlikeAt modes x y other = f other lt in
     and_from (same_answer (incompatible modes x other) (incompatible modes y other)) (same_answer (incompatible modes other x) (incompatible modes other y))
     (same_answer-from (incompatible modes x other) (incompatible modes y other) a.held) (same_answer-from (incompatible modes other x) (incompatible modes other y) a.asked))
 
-alike-itself : (modes : LockModes) (x : ℕ) → are_alike modes x x ≡ true
+pub alike-itself : (modes : LockModes) (x : ℕ) → are_alike modes x x ≡ true
 alike-itself modes x = alike_from modes x x (λ other lt. record { held = refl; asked = refl })
 
 alike-alike : (modes : LockModes) (x y z : ℕ) → are_alike modes x y ≡ true → are_alike modes y z ≡ true → are_alike modes x z ≡ true
