@@ -49,14 +49,15 @@ fn read_of_kind(alloc: Global, kind: Kind, bytes: &[u8]) -> Result<Table, TableR
     }
 }
 
-/// Looks whether each row is below the other table's.
-fn want_below(kind: Kind, table: &Table, upper: &Table) -> Result<(), TableRefuse>
-    ensures ok { OnOk result (AreRowsBelow (kind_number kind) (row_of table.now) (row_of upper.now)) }
-    ensures sound { OnOk result (KeepsToKind (kind_number kind) (row_of table.now) → AreBelow (row_of table.now) (row_of upper.now)) }
-    ensures refused { IfErr result (IsPairRefusal (kind_number kind) (row_of table.now) (row_of upper.now)) }
+/// Keeps a table, where each of its rows is below the other table's.
+fn keep_below(kind: Kind, table: Table, upper: &Table) -> Result<Table, TableRefuse>
+    ensures same { IfOk result (λ kept. kept ≡ table) }
+    ensures below { OnOk result (AreRowsBelow (kind_number kind) (row_of table) (row_of upper.now)) }
+    ensures sound { OnOk result (KeepsToKind (kind_number kind) (row_of table) → AreBelow (row_of table) (row_of upper.now)) }
+    ensures refused { IfErr result (IsPairRefusal (kind_number kind) (row_of table) (row_of upper.now)) }
 {
-    match below(kind, table, upper) {
-        Ok(()) => Ok(()),
+    match below(kind, &table, upper) {
+        Ok(()) => Ok(table),
         Err(pair) => Err(TableRefuse::NotBelow {
             first: pair.first,
             second: pair.second,
@@ -78,8 +79,8 @@ pub fn accepted_table(
     ensures serves { IsValid (kind_number kind) (row_of upper.now) → IfOk result (λ table. MayServe (kind_number kind) (row_of table)) }
 {
     let table = read_of_kind(alloc, kind, bytes)?;
-    match want_below(kind, &table, upper) {
-        Ok(()) => Ok(table),
+    match keep_below(kind, table, upper) {
+        Ok(kept) => Ok(kept),
         Err(refused) => Err(refused),
     }
 }
