@@ -19,7 +19,14 @@ const ITEM: Item = Item {
     k3: 0,
 };
 
-const KEYS: i64 = 6;
+/// Which calls are drawn: of three methods from this one on, on so many keys. At every so many steps the numbers of
+/// all keys are compared.
+#[derive(Clone, Copy, Drop)]
+struct Range {
+    first_method: u32,
+    keys: u32,
+    compared: u32,
+}
 
 /// Numbers that follow from a seed.
 #[derive(Drop)]
@@ -40,36 +47,67 @@ impl Draws {
     }
 }
 
-/// How many steps of each sort there were, and how many whose answer or state differed from the model's.
+/// How many steps of each sort there were, after how many fewer keys had rows, and how many whose answer or state
+/// differed from the model's.
 #[derive(Clone, Copy, Drop)]
 struct Counts {
     admitted: u64,
     conflicts: u64,
     undone: u64,
     released: u64,
+    tidied: u64,
     differing: u64,
 }
 
+const NO_STEPS: Counts = Counts {
+    admitted: 0,
+    conflicts: 0,
+    undone: 0,
+    released: 0,
+    tidied: 0,
+    differing: 0,
+};
+
 impl Counts {
+    fn is_long(&self) -> bool {
+        self.admitted.saturating_add(self.conflicts) > 10_000
+    }
+
     fn is_varied(&self) -> bool {
         self.admitted > 3000 && self.conflicts > 1000 && self.undone > 500 && self.released > 500
     }
 }
 
-/// What shows the number of a key, which is 1 or 0 for sets.
+/// What shows the number of a key, which is 1 or 0 for sets, and whether the key has a row.
 trait Numbered {
     fn number(&self, key: i64) -> i64;
+
+    fn has_row(&self, key: i64) -> bool;
 }
 
 impl Numbered for SharedSet {
     fn number(&self, key: i64) -> i64 {
         if self.has(key) { 1 } else { 0 }
     }
+
+    fn has_row(&self, key: i64) -> bool {
+        self.roomed(
+            Call::new(set_methods::ADD, key, 0, 0, 0),
+            Reply::new(1, 0, 0, 0),
+        )
+    }
 }
 
 impl Numbered for Cells {
     fn number(&self, key: i64) -> i64 {
         self.value(key)
+    }
+
+    fn has_row(&self, key: i64) -> bool {
+        self.roomed(
+            Call::new(cells_methods::ADD, key, 0, 0, 0),
+            Reply::new(0, 0, 0, 0),
+        )
     }
 }
 
@@ -87,12 +125,13 @@ fn agrees(outcome: Result<Reply, GateRefuse>, asked: LiveCall, way: Option<LiveC
     }
 }
 
-/// One of three methods with a key and a number.
-fn drawn_call(draws: &mut Draws, first_method: u32) -> Call
-    requires { first_method < 100 }
+/// One of the methods with a key and a number.
+fn drawn_call(draws: &mut Draws, range: Range) -> Call
+    requires methods { range.first_method < 100 }
+    requires keys { 0 < range.keys }
 {
-    let method = first_method + draws.below(3) as u32;
-    let key = draws.below(KEYS as u64) as i64;
+    let method = range.first_method + draws.below(3) as u32;
+    let key = draws.below(u64::from(range.keys)) as i64;
     let number = draws.below(4) as i64 - 2;
     Call::new(method, key, number, 0, 0)
 }
@@ -151,9 +190,10 @@ fn step<T: SeqType, S: Screen<T>>(
     model: &mut Model,
     draws: &mut Draws,
     counts: &mut Counts,
-    first_method: u32,
+    range: Range,
 ) -> Result<bool, AllocError>
-    requires { first_method < 100 }
+    requires methods { range.first_method < 100 }
+    requires keys { 0 < range.keys }
 {
     let worker = draws.below(2) as u32;
     let iter = draws.below(2);
@@ -169,7 +209,7 @@ fn step<T: SeqType, S: Screen<T>>(
             let asked = LiveCall {
                 worker,
                 iter,
-                call: drawn_call(draws, first_method),
+                call: drawn_call(draws, range),
                 reply: 0,
             };
             calls(gate, model, counts, asked)
@@ -177,8 +217,21 @@ fn step<T: SeqType, S: Screen<T>>(
     }
 }
 
-fn same_numbers<T: Numbered>(object: &T, model: &Model) -> bool {
-    for key in 0..KEYS {
+/// Commits the calls of all iterations, so that the object may tidy itself at the next call.
+fn releases_all<T: SeqType, S: Screen<T>>(
+    alloc: Global,
+    gate: &mut Gate<T, S>,
+    model: &mut Model,
+) -> Result<(), AllocError> {
+    for (worker, iter) in [(0, 0), (0, 1), (1, 0), (1, 1)] {
+        model.release(alloc, worker, iter)?;
+        releases(gate, worker, iter);
+    }
+    Ok(())
+}
+
+fn same_numbers<T: Numbered>(object: &T, model: &Model, keys: u32) -> bool {
+    for key in 0..i64::from(keys) {
         if object.number(key) != model.number(key) {
             return false;
         }
@@ -186,34 +239,64 @@ fn same_numbers<T: Numbered>(object: &T, model: &Model) -> bool {
     true
 }
 
-/// Ten thousand steps.
+/// How many keys have rows.
+fn row_count<T: Numbered>(object: &T, keys: u32) -> u64 {
+    let mut count: u64 = 0;
+    for key in 0..i64::from(keys) {
+        if object.has_row(key) {
+            count = count.saturating_add(1);
+        }
+    }
+    count
+}
+
+/// A step, with what differs after it, and whether keys lost their rows in it. They may where there are no uncommitted
+/// calls.
+fn compared_step<T: SeqType + Numbered, S: Screen<T>>(
+    alloc: Global,
+    gate: &mut Gate<T, S>,
+    model: &mut Model,
+    draws: &mut Draws,
+    counts: &mut Counts,
+    range: Range,
+) -> Result<(), AllocError>
+    requires methods { range.first_method < 100 }
+    requires keys { 0 < range.keys }
+{
+    let rows = if gate.live().is_empty() {
+        row_count(gate.object(), range.keys)
+    } else {
+        0
+    };
+    let agreed = step(alloc, gate, model, draws, counts, range)?;
+    if !agreed || gate.live().len() != model.live_count() {
+        counts.differing = counts.differing.saturating_add(1);
+    }
+    if rows > 0 && row_count(gate.object(), range.keys) < rows {
+        counts.tidied = counts.tidied.saturating_add(1);
+    }
+    Ok(())
+}
+
+/// Steps of which more than ten thousand are calls. Now and then all that was done is committed.
 fn run<T: SeqType + Numbered, S: Screen<T>>(
     alloc: Global,
     gate: &mut Gate<T, S>,
-    first_method: u32,
+    range: Range,
 ) -> Result<Counts, AllocError>
-    requires { first_method < 100 }
+    requires methods { range.first_method < 100 }
+    requires keys { 0 < range.keys }
+    requires compared { 0 < range.compared }
 {
     let mut model = Model::new(alloc);
     let mut draws = Draws { state: 1 };
-    let mut counts = Counts {
-        admitted: 0,
-        conflicts: 0,
-        undone: 0,
-        released: 0,
-        differing: 0,
-    };
-    for _ in 0..10_000 {
-        let agreed = step(
-            alloc,
-            gate,
-            &mut model,
-            &mut draws,
-            &mut counts,
-            first_method,
-        )?;
-        let same = gate.live().len() == model.live_count() && same_numbers(gate.object(), &model);
-        if !agreed || !same {
+    let mut counts = NO_STEPS;
+    for turn in 0..13_000u32 {
+        if turn % 40 == 0 {
+            releases_all(alloc, gate, &mut model)?;
+        }
+        compared_step(alloc, gate, &mut model, &mut draws, &mut counts, range)?;
+        if turn % range.compared == 0 && !same_numbers(gate.object(), &model, range.keys) {
             counts.differing = counts.differing.saturating_add(1);
         }
     }
@@ -244,29 +327,56 @@ fn scanned_cells(alloc: Global) -> Result<Gate<Cells, ScanScreen>, NoMemory> {
     Ok(Gate::new(alloc, object, Kind::Cells, table, ScanScreen::new()))
 }
 
+const FEW_IN_SETS: Range = Range {
+    first_method: set_methods::ADD,
+    keys: 6,
+    compared: 1,
+};
+
+const MANY_IN_SETS: Range = Range {
+    first_method: set_methods::ADD,
+    keys: 200,
+    compared: 16,
+};
+
+const FEW_IN_CELLS: Range = Range {
+    first_method: cells_methods::READ,
+    keys: 6,
+    compared: 1,
+};
+
 #[test]
 fn random_calls_on_a_set_are_answered_as_by_the_model(rt: HostRuntime) -> Result<(), Fail> {
     let mut gate = set_gate(rt.alloc())?;
-    let counts = run(rt.alloc(), &mut gate, set_methods::ADD)?;
+    let counts = run(rt.alloc(), &mut gate, FEW_IN_SETS)?;
     assert_eq!(rt; counts.differing, 0);
-    assert!(rt; counts.is_varied());
+    assert!(rt; counts.is_long() && counts.is_varied());
+    Ok(())
+}
+
+#[test]
+fn a_set_that_drops_dead_rows_answers_so_too(rt: HostRuntime) -> Result<(), Fail> {
+    let mut gate = set_gate(rt.alloc())?;
+    let counts = run(rt.alloc(), &mut gate, MANY_IN_SETS)?;
+    assert_eq!(rt; counts.differing, 0);
+    assert!(rt; counts.is_long() && counts.conflicts > 100 && counts.tidied > 5);
     Ok(())
 }
 
 #[test]
 fn random_calls_on_cells_are_answered_as_by_the_model(rt: HostRuntime) -> Result<(), Fail> {
     let mut gate = cells_gate(rt.alloc())?;
-    let counts = run(rt.alloc(), &mut gate, cells_methods::READ)?;
+    let counts = run(rt.alloc(), &mut gate, FEW_IN_CELLS)?;
     assert_eq!(rt; counts.differing, 0);
-    assert!(rt; counts.is_varied());
+    assert!(rt; counts.is_long() && counts.is_varied());
     Ok(())
 }
 
 #[test]
 fn the_plain_scan_answers_so_too(rt: HostRuntime) -> Result<(), Fail> {
     let mut gate = scanned_cells(rt.alloc())?;
-    let counts = run(rt.alloc(), &mut gate, cells_methods::READ)?;
+    let counts = run(rt.alloc(), &mut gate, FEW_IN_CELLS)?;
     assert_eq!(rt; counts.differing, 0);
-    assert!(rt; counts.is_varied());
+    assert!(rt; counts.is_long() && counts.is_varied());
     Ok(())
 }

@@ -9,6 +9,7 @@ use cond_lattice::{join, meet, strengthen};
 use cond_text::{print_cond, read_table};
 use flow_graph::FlowShard;
 use gx_base::{Choice, Cond, Kind, NoMemory, SeqType, Side, Table, Term};
+use shared_sets::{Cells, SharedSet};
 use std::alloc::Global;
 use std::test::Fail;
 
@@ -71,16 +72,80 @@ send flow : a1 != a2 or b1 = 0
 send send : true
 ";
 
-/// Whether a text is that of the precise table of flow shards.
-fn is_precise(alloc: Global, text: &str) -> Result<bool, Fail> {
-    let shipped = FlowShard::shipped(alloc, Kind::Flow, Choice::Precise)?;
-    let (_, table) = read_table(alloc, text.as_bytes(), &[Kind::Flow])?;
+/// The precise table of sets.
+const SET_TEXT: &str = "type set
+add add : a1 != a2 or (p1 = 0 and p2 = 0)
+add remove : a1 != a2
+add contains : a1 != a2 or p1 = 0
+remove add : a1 != a2
+remove remove : a1 != a2 or (p1 = 0 and p2 = 0)
+remove contains : a1 != a2 or p1 = 0
+contains add : a1 != a2 or p2 = 0
+contains remove : a1 != a2 or p2 = 0
+contains contains : true
+";
+
+/// The precise table of cells.
+const CELLS_TEXT: &str = "type cells
+read read : true
+read add : a1 != a2 or b2 = 0
+read set : a1 != a2 or p1 = b2
+add read : a1 != a2 or b1 = 0
+add add : true
+add set : a1 != a2 or b1 = 0
+set read : a1 != a2 or p1 = b1
+set add : a1 != a2 or b2 = 0
+set set : a1 != a2 or (b1 = b2 and p1 = b1)
+";
+
+/// The table of readers and writers of sets.
+const SET_LOOKS: &str = "type set
+add add : a1 != a2
+add remove : a1 != a2
+add contains : a1 != a2
+remove add : a1 != a2
+remove remove : a1 != a2
+remove contains : a1 != a2
+contains add : a1 != a2
+contains remove : a1 != a2
+contains contains : true
+";
+
+/// The table of readers and writers of cells.
+const CELLS_LOOKS: &str = "type cells
+read read : true
+read add : a1 != a2
+read set : a1 != a2
+add read : a1 != a2
+add add : a1 != a2
+add set : a1 != a2
+set read : a1 != a2
+set add : a1 != a2
+set set : a1 != a2
+";
+
+/// Whether a text is that of a table which a type ships for a kind.
+fn is_shipped<T: SeqType>(
+    alloc: Global,
+    kind: Kind,
+    choice: Choice,
+    text: &str,
+) -> Result<bool, Fail> {
+    let shipped = T::shipped(alloc, kind, choice)?;
+    let (_, table) = read_table(alloc, text.as_bytes(), &[kind])?;
     Ok(table.equals(&shipped))
 }
 
 #[test]
-fn the_precise_flow_table_is_that_of_its_text(rt: HostRuntime) -> Result<(), Fail> {
-    assert!(rt; is_precise(rt.alloc(), FLOW_TEXT)?);
+fn shipped_tables_are_those_of_their_texts(rt: HostRuntime) -> Result<(), Fail> {
+    let alloc = rt.alloc();
+    let precise = Choice::Precise;
+    let looks = Choice::Rw;
+    assert!(rt; is_shipped::<FlowShard>(alloc, Kind::Flow, precise, FLOW_TEXT)?);
+    assert!(rt; is_shipped::<SharedSet>(alloc, Kind::Set, precise, SET_TEXT)?);
+    assert!(rt; is_shipped::<Cells>(alloc, Kind::Cells, precise, CELLS_TEXT)?);
+    assert!(rt; is_shipped::<SharedSet>(alloc, Kind::Set, looks, SET_LOOKS)?);
+    assert!(rt; is_shipped::<Cells>(alloc, Kind::Cells, looks, CELLS_LOOKS)?);
     Ok(())
 }
 
