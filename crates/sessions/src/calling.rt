@@ -88,11 +88,13 @@ impl<O: Operator> Session<O> {
                 self.note(room, call, reply);
                 Ok(Event::Call { room, call, reply })
             }
-            Err(GateRefuse::Conflict(told)) => {
-                self.give_up(rooms);
-                Ok(Event::Conflict { room, told })
-            }
-            Err(GateRefuse::NoMemory) => self.stop(rooms, Stop::NoMemory),
+            Err(refuse) => match refuse {
+                GateRefuse::Conflict(told) => {
+                    self.give_up(rooms);
+                    Ok(Event::Conflict { room, told })
+                }
+                GateRefuse::NoMemory => self.stop(rooms, Stop::NoMemory),
+            },
         }
     }
 
