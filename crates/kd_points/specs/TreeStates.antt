@@ -1,5 +1,5 @@
 -- What a tree of points stands for.
-use Rattle.std.specs.Prelude.{◌≡◌, ℕ, ◌+◌, ◌-◌, ℤ, Bool, true, false, cond, ◌&&◌, ◌||◌, Option, Some, None, List, [], ◌∷◌, if◌then◌else◌}
+use Rattle.std.specs.Prelude.{◌≡◌, ℕ, ◌+◌, ◌-◌, ℤ, Bool, true, false, cond, ◌&&◌, ◌||◌, Option, Some, None, List, [], ◌∷◌, if◌then◌else◌, ◌⊎◌}
 use Rattle.std.specs.FinMap as map
 use Rattle.std.specs.Map.{lookup}
 use Rattle.std.specs.Ordering.{int_eq, is_lt}
@@ -13,7 +13,7 @@ use Rattle.kd_points.specs.declared.nodes.Node.{Node}
 use Rattle.kd_points.specs.declared.nodes.Seat.{Seat}
 use Rattle.kd_points.specs.declared.nodes.Seat.TheVariants.{Free}
 use Rattle.kd_points.specs.declared.tree.Tree.{Tree}
-use Rattle.kd_points.specs.Trees.{Nodes, spot_cmp, is_point_of, IsTree, IsSeat}
+use Rattle.kd_points.specs.Trees.{Nodes, spot_cmp, is_point_of, IsTree, IsSeat, depth_of, seat_depth}
 
 -- the node of a key
 abbrev pub node_at : Tree → Nodes
@@ -99,6 +99,10 @@ pub record IsBelow (old new : Tree) (seat : Seat) (spot : Spot) (axis : Axis) (k
   pub vacant : node_at old key ≡ None
   pub below : (r : Spot) → IsSeat (node_at old) old.root r seat → IsSeat (node_at new) new.root r (Free key (is_lt (spot_cmp axis r spot)))
   pub beside : SeatsStay old new seat
+  pub deep : depth_of (node_at new key) ≡ Some (seat_depth (node_at old) seat)
+  pub other_depths : (j d : ℕ) → depth_of (node_at new j) ≡ Some d → (j ≡ key) ⊎ (depth_of (node_at old j) ≡ Some d)
+  pub depths_stay : (j d : ℕ) → depth_of (node_at old j) ≡ Some d → depth_of (node_at new j) ≡ Some d
+  pub size : slab_len new.nodes ≡ slab_len old.nodes + 1
 
 -- the tree has no nodes
 pub record IsBlank (tree : Tree) : Type 0 where

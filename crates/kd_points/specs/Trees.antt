@@ -96,3 +96,14 @@ abbrev pub is_found : Seat → Bool
 is_found (Found j) = true
 is_found (Free j left) = false
 is_found Empty = false
+
+-- how deep a child of the node stands
+abbrev pub depth_below : Option Node → ℕ
+depth_below None = 0
+depth_below (Some n) = suc n.depth
+
+-- how deep a new node at the seat stands
+abbrev pub seat_depth : Nodes → Seat → ℕ
+seat_depth look (Found j) = 0
+seat_depth look (Free j left) = depth_below (look j)
+seat_depth look Empty = 0

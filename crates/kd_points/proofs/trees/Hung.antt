@@ -1,6 +1,6 @@
 -- A new point, as the code puts it in.
-use Rattle.std.specs.Prelude.{◌≡◌, ℕ, suc, ℤ, ◌+◌, ◌≤◌, Bool, true, false, cond, Option, Some, None, List, is_some, count_by, slice_index_or, refl}
-use Rattle.std.proofs.Common.{sym, ◌∙◌, ap, subst, arith}
+use Rattle.std.specs.Prelude.{◌≡◌, ℕ, suc, ℤ, ◌+◌, ◌≤◌, Bool, true, false, cond, Option, Some, None, List, is_some, count_by, slice_index_or, refl, ◌⊎◌}
+use Rattle.std.proofs.Common.{sym, ◌∙◌, ap, subst, arith, inl, inr}
 use Rattle.std.specs.Map.{lookup}
 use Rattle.std.specs.Ordering.{int_eq}
 use Rattle.gx_base.specs.declared.calls.Spot.{Spot}
@@ -11,12 +11,12 @@ use Rattle.kd_points.specs.declared.nodes.Node.{Node}
 use Rattle.kd_points.specs.declared.nodes.Seat.{Seat}
 use Rattle.kd_points.specs.declared.nodes.Seat.TheVariants.{Free, Empty}
 use Rattle.kd_points.specs.declared.tree.Tree.{Tree}
-use Rattle.kd_points.specs.Trees.{child, way, is_left, leaf_of, linked, FitsSpot, IsTree, IsSeat}
+use Rattle.kd_points.specs.Trees.{child, way, is_left, leaf_of, linked, depth_of, depth_below, FitsSpot, IsTree, IsSeat}
 use Rattle.kd_points.specs.TreeStates.{node_at, key_of, place, tree_rows, tree_state, count_of, dead_nodes, IsSound, IsAlike, IsPlanted, IsBelow, has_node, NoPoint}
-use Rattle.kd_points.proofs.states.Basics.{none_some, some_is}
+use Rattle.kd_points.proofs.states.Basics.{none_some, some_is, same_key}
 use Rattle.kd_points.proofs.states.StateRows.{with_rows, Settles}
 use Rattle.kd_points.proofs.states.Counts.{count-more}
-use Rattle.kd_points.proofs.trees.Ways.{AllStay, ended}
+use Rattle.kd_points.proofs.trees.Ways.{AllStay, ended, depth_stays}
 use Rattle.kd_points.proofs.trees.Holders.{holds-at}
 use Rattle.kd_points.proofs.trees.Changes.{Changed, settled_state, nodes_kept, others_live}
 use Rattle.kd_points.proofs.trees.Growth.{grown_stays, way_to_new, seat_stays, grown_tree, grown_rows, first_stays, first_tree, first_rows}
@@ -56,6 +56,10 @@ grown_by old new spot key leaf s free t rows stays live here same size =
       size = size;
       live = live;
     }
+
+linked_depth : (n : Node) (left : Bool) (c : ℕ) → (linked n left c).depth ≡ n.depth
+linked_depth n true c = refl
+linked_depth n false c = refl
 
 n_plus_one : (n : ℕ) → n + 1 ≡ suc n
 n_plus_one n = omega arith
@@ -115,7 +119,16 @@ module _ (old mid new : Tree) (spot : Spot) (axis : Axis) (key at : ℕ) (n : No
         );
     beside = λ r j side s d. subst (λ o. IsSeat (node_at new) o r (Free j side)) (sym root)
         (seat_stays (node_at old) (node_at new) key at n leaf left p.vacant stood open_side here u.changed others r old.root j side s d);
+    deep = ap depth_of here ∙ ap Some (n_plus_one n.depth) ∙ sym (ap (λ o. Some (depth_below o)) stood);
+    other_depths = λ j d e. by_key j d e (same_key j key) (same_key j at);
+    depths_stay = depth_stays (node_at old) (node_at new) (grown_stays (node_at old) (node_at new) key at n leaf left p.vacant stood open_side here u.changed others);
+    size = size ∙ p.size;
   }
+    where
+      by_key : (j d : ℕ) → depth_of (node_at new j) ≡ Some d → (j ≡ key) ⊎ (j ≡ key → ⊥) → (j ≡ at) ⊎ (j ≡ at → ⊥) → (j ≡ key) ⊎ (depth_of (node_at old j) ≡ Some d)
+      by_key j d e (inl k) f = inl k
+      by_key j d e (inr k) (inl f) = inr (ap depth_of (ap (node_at old) f ∙ stood) ∙ sym (ap Some (linked_depth n left key)) ∙ sym (ap depth_of (ap (node_at new) f ∙ u.changed)) ∙ e)
+      by_key j d e (inr k) (inr f) = inr (sym (ap depth_of (others j k f)) ∙ e)
 
 -- as the root
 pub rooted_from : (old mid : Tree) (spot : Spot) (axis : Axis) (key : ℕ) → IsSound old → NoPoint old spot.id → old.root ≡ None → IsPlanted old mid key (leaf_of axis spot 0) → FitsSpot spot → Grown old (record mid { root = Some key }) spot
@@ -133,11 +146,23 @@ rooted_below old mid spot axis key none p = record {
   vacant = p.vacant;
   below = λ r s. (leaf_of axis spot 0, p.nodes.changed, bare_leaf axis spot 0 (is_left (leaf_of axis spot 0) r), refl, refl);
   beside = λ r j side s d. absurd (ended (node_at old) r s.0.depth j (ap (way (node_at old) r s.0.depth) (sym none) ∙ s.4));
+  deep = ap depth_of p.nodes.changed;
+  other_depths = λ j d e. by_key j d e (same_key j key);
+  depths_stay = λ j d e. kept j d e (same_key j key);
+  size = p.size;
 }
+  where
+    by_key : (j d : ℕ) → depth_of (node_at mid j) ≡ Some d → (j ≡ key) ⊎ (j ≡ key → ⊥) → (j ≡ key) ⊎ (depth_of (node_at old j) ≡ Some d)
+    by_key j d e (inl k) = inl k
+    by_key j d e (inr k) = inr (sym (ap depth_of (p.nodes.others j k)) ∙ e)
+
+    kept : (j d : ℕ) → depth_of (node_at old j) ≡ Some d → (j ≡ key) ⊎ (j ≡ key → ⊥) → depth_of (node_at mid j) ≡ Some d
+    kept j d e (inl k) = absurd (none_some d (sym (ap depth_of (ap (node_at old) k ∙ p.vacant)) ∙ e))
+    kept j d e (inr k) = ap depth_of (p.nodes.others j k) ∙ e
 
 -- the count of points doesn't matter
 pub below_counted : (old new : Tree) (seat : Seat) (spot : Spot) (axis : Axis) (key : ℕ) → IsBelow old new seat spot axis key → IsBelow old (record new { live = new.live + 1 }) seat spot axis key
-below_counted old new seat spot axis key b = record { vacant = b.vacant; below = b.below; beside = b.beside }
+below_counted old new seat spot axis key b = record { vacant = b.vacant; below = b.below; beside = b.beside; deep = b.deep; other_depths = b.other_depths; depths_stay = b.depths_stay; size = b.size }
 
 -- a new node is live, and one that was dead may have become so
 pub no_more_dead : (old new : Tree) → slab_len new.nodes ≤ slab_len old.nodes + 1 → new.live ≡ old.live → dead_nodes (record new { live = new.live + 1 }) ≤ dead_nodes old

@@ -4,6 +4,7 @@ use Rattle.std.specs.List.Sorted.{IsSplitAroundBy}
 use Rattle.std.specs.Ordering.{is_lt}
 use Rattle.kd_points.specs.Trees.{spot_cmp}
 use Rattle.kd_points.proofs.rebuilds.Gathering.{front_less, back_less, gathers_one, gathers_parts_ok}
+use Rattle.kd_points.proofs.rebuilds.Heights.{low_parts_ok, none_lower}
 use Rattle.kd_points.proofs.rebuilds.Halves.{spot_cmp_ranks, middle_in, front_new, back_new, all_beside_ok}
 use Rattle.kd_points.proofs.tree.Tree.+insert_all.Goals as goal
 
