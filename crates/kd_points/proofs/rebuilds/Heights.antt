@@ -1,6 +1,9 @@
 -- How deep a tree is that is made by halves.
-use Rattle.std.specs.Prelude.{◌≡◌, ℕ, suc, ◌+◌, ◌*◌, ◌^◌, ◌≤◌, Option, Some, None, is_some, count_by, slice_index_or, Bool, true, false, Result, Ok, Err, OnOk, refl, ◌⊎◌}
-use Rattle.std.proofs.Common.{sym, ◌∙◌, ap, subst, arith, inl, inr}
+use Rattle.std.specs.Prelude.{◌≡◌, ℕ, suc, ◌+◌, ◌*◌, ◌/◌, ◌^◌, ◌≤◌, Option, Some, None, List, ◌∷◌, ◌++◌, length, is_some, true, false, count_by, slice_index_or, Result, Ok, Err, OnOk, refl, ◌⊎◌}
+use Rattle.std.proofs.Common.{sym, ◌∙◌, ap, arith, inl, inr, length-append}
+use Rattle.std.proofs.Math.Nat.{pow-suc}
+use Rattle.std.specs.List.Sorted.{IsPermutation}
+use Rattle.std.proofs.lemmas.List.Sorted.{length_permutation}
 use Rattle.slab.specs.Slab.{slab_len}
 use Rattle.gx_base.specs.declared.calls.Spot.{Spot}
 use Rattle.kd_points.specs.declared.nodes.Axis.{Axis}
@@ -13,15 +16,21 @@ use Rattle.kd_points.specs.TreeStates.{node_at, IsBelow, IsBlank}
 use Rattle.kd_points.specs.Rebuilding.{IsLow, IsBalancedTree}
 use Rattle.kd_points.proofs.states.Basics.{none_some, some_is}
 
-pub none_lower : (tree : Tree) (depth : ℕ) → IsLow tree tree depth 0
-none_lower tree depth = record { fresh = λ j d e. inl e; stay = λ j d e. e; size = omega arith }
-
 below_of : (o : Option Node) (d : ℕ) → depth_of o ≡ Some d → depth_below o ≡ suc d
 below_of None d e = absurd (none_some d e)
 below_of (Some n) d e = ap suc (some_is n.depth d e)
 
 twice : (e count half : ℕ) → 2 ^ e ≤ half → half + half ≤ count → 2 ^ suc e ≤ count
-twice e count half h k = let p : 2 ^ suc e ≡ 2 * 2 ^ e = refl in omega arith
+twice e count half h k = let p : 2 ^ suc e ≡ 2 ^ e * 2 = pow-suc 2 e in omega arith
+
+pub halves_length : (spots front back : List Spot) (middle : Spot) → IsPermutation spots (front ++ middle ∷ back) → length spots ≡ length front + suc (length back)
+halves_length spots front back middle p = sym (length_permutation spots (front ++ middle ∷ back) p) ∙ length-append front (middle ∷ back)
+
+pub front_half : (count front : ℕ) → front ≡ count / 2 → front + front ≤ count
+front_half count front e = omega arith
+
+pub back_half : (count front back : ℕ) → front ≡ count / 2 → count ≡ front + suc back → back + back ≤ count
+back_half count front back e f = omega arith
 
 one_at_least : (count front back : ℕ) → count ≡ front + suc back → 2 ^ 0 ≤ count
 one_at_least count front back e = omega arith
@@ -86,4 +95,4 @@ blank_balanced blank new count b l j d e = by_fresh (l.fresh j d e)
 
     by_fresh : (depth_of (node_at blank j) ≡ Some d) ⊎ ((h : ℕ) × (d ≡ 0 + h) × (2 ^ h ≤ count)) → 2 ^ d ≤ slab_len new.nodes
     by_fresh (inl h) = absurd (none_some d (sym (ap (λ slots. depth_of (slice_index_or slots j None)) b.slots) ∙ h))
-    by_fresh (inr x) = let p : 2 ^ d ≡ 2 ^ x.0 = ap (λ k. 2 ^ k) x.1 in let q : 2 ^ x.0 ≤ count = x.2 in let s : slab_len new.nodes ≡ slab_len blank.nodes + count = l.size in omega (arith, empty)
+    by_fresh (inr x) = let same : d ≡ x.0 = (let p : d ≡ 0 + x.0 = x.1 in omega arith) in let p : 2 ^ d ≡ 2 ^ x.0 = ap (λ k. 2 ^ k) same in let q : 2 ^ x.0 ≤ count = x.2 in let s : slab_len new.nodes ≡ slab_len blank.nodes + count = l.size in omega (arith, empty)
