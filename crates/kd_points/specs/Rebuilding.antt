@@ -9,7 +9,7 @@ use Rattle.kd_points.specs.declared.rebuild.TheConstants.{LEAST_REBUILT}
 use Rattle.kd_points.specs.declared.nodes.Seat.{Seat}
 use Rattle.kd_points.specs.declared.tree.Tree.{Tree}
 use Rattle.kd_points.specs.Trees.{IsSeat, depth_of}
-use Rattle.kd_points.specs.TreeStates.{node_at, tree_state, dead_nodes, IsSound, NoPoint}
+use Rattle.kd_points.specs.TreeStates.{node_at, tree_state, dead_nodes, IsSound, NoPoint, NoneBare}
 
 -- this is a point of the tree
 abbrev pub IsPointOf : Tree → Spot → Type 0
@@ -23,10 +23,11 @@ HasPoint tree id = is_some (spot_at (tree_state tree) id) ≡ true
 abbrev pub HaveOwnIds : List Spot → Type 0
 HaveOwnIds spots = IsDistinct (λ p q. int_eq p.id q.id) spots
 
--- the spots may all be put in at the seat: no id has a point yet, or stands twice
+-- the spots may all be put in at the seat: no id has a point yet, or stands twice, and no node is bare
 pub record AreNew (tree : Tree) (spots : List Spot) (seat : Seat) : Type 0 where
   pub own : HaveOwnIds spots
   pub free : (r : Spot) → Contains spots r → NoPoint tree r.id
+  pub bare : NoneBare tree
   pub seated : (r : Spot) → Contains spots r → IsSeat (node_at tree) tree.root r seat
 
 -- the points of the new tree are those of the old one and of these; each id that had a point, or is one of these, has one;

@@ -121,7 +121,7 @@ pub fn nearest(tree: &Tree, alloc: Global, q: Spot) -> Result<Found, NoMemory>
         if is_past(next.reach, q, best) {
             continue;
         }
-        match tree.node(next.from) {
+        match tree.node_with_points(next.from) {
             None => {}
             Some(node) => {
                 taken = with_one_for(taken, node, q);

@@ -168,6 +168,7 @@ blank_sound tree b = record {
     numbered = λ i n e. absurd (none_some n (sym (nothing i) ∙ e));
     owned = λ i n e l. absurd (none_some n (sym (nothing i) ∙ e));
     fits = λ i n e. absurd (none_some n (sym (nothing i) ∙ e));
+    passable = λ i n e l. absurd (none_some n (sym (nothing i) ∙ e));
   };
   counted = b.live ∙ sym (ap (λ es. count_of (with_rows (tree_rows (node_at tree) es))) b.entries ∙ map.len-empty row_cmp (List ℤ));
 }

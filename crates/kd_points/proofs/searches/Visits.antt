@@ -9,11 +9,12 @@ use Rattle.kind_tables.proofs.CallerLemmas.{both, not_true}
 use Rattle.kd_points.specs.declared.nodes.Node.{Node}
 use Rattle.kd_points.specs.declared.search.Pending.{Pending}
 use Rattle.kd_points.specs.NearestPoints.{beyond-upto, beyond-back, beyond-itself}
-use Rattle.kd_points.specs.Trees.{Nodes, is_left, child, child_of, way, IsTree}
+use Rattle.kd_points.specs.Trees.{Nodes, is_left, child, child_of, way, is_bare, IsTree, IsOpenTo}
 use Rattle.kd_points.proofs.trees.LiveNodes.{IsNodeOf, IsLive}
 use Rattle.kd_points.specs.Searches.{other_of, to_plane, pending_at, sides_of}
 use Rattle.kd_points.proofs.searches.Searched.{Leads, Within, IsLiveOther, IsAwaited, IsAwaitedIn, IsSearched}
-use Rattle.kd_points.proofs.states.Basics.{none_some, some_is}
+use Rattle.kd_points.proofs.states.Basics.{none_some, some_is, not_both}
+use Rattle.kd_points.proofs.trees.Openings.{moved}
 use Rattle.kd_points.proofs.searches.Pruning.{plane_before, by_distance}
 
 -- the nearer of two points
@@ -63,16 +64,17 @@ abbrev pub Under : Nodes → Option ℕ → Spot → Type 0
 Under look from r = (k : ℕ) × Leads look r k from
 
 here_or_under : (look : Nodes) (i : ℕ) (n : Node) (r : Spot) → look i ≡ Some n → Under look (Some i) r → (IsNodeOf (Some n) r) ⊎ (Under look (child n (is_left n r)) r)
-here_or_under look i n r g (zero, l) = inl (subst (λ o. IsNodeOf o r) g l)
-here_or_under look i n r g (suc k, l) = inr (k, subst (λ o. Leads look r k (child_of o r)) g l)
+here_or_under look i n r g (zero, l) = inl (subst (λ o. IsNodeOf o r) g l.0)
+here_or_under look i n r g (suc k, l) = inr (k, subst (λ o. Leads look r k (child_of o r)) g l.0)
 
 nowhere : (look : Nodes) (r : Spot) (k : ℕ) → Leads look r k None → ⊥
 nowhere look r zero l = l
 nowhere look r (suc k) l = l
 
-absent : (look : Nodes) (i : ℕ) (r : Spot) → look i ≡ None → Under look (Some i) r → ⊥
-absent look i r g (zero, l) = subst (λ o. IsNodeOf o r) g l
-absent look i r g (suc k, l) = nowhere look r k (subst (λ o. Leads look r k (child_of o r)) g l)
+-- nothing is awaited under a bare node
+absent : (look : Nodes) (i : ℕ) (r : Spot) → is_bare (look i) ≡ true → Under look (Some i) r → ⊥
+absent look i r g (zero, l) = not_both (is_bare (look i)) g l.1
+absent look i r g (suc k, l) = not_both (is_bare (look i)) g l.1
 
 same_or_not : (a b : Bool) → (a ≡ b) ⊎ (a ≡ not b)
 same_or_not true true = inl refl
@@ -124,8 +126,8 @@ module _ (look : Nodes) (q : Spot) where
       by_cover r (inl w) = inl w
       by_cover r (inr a) = by_last r (last rest next r a)
 
-  -- where no node is there is nothing to visit
-  pub passed : (best : Option Spot) (rest : List Pending) (next : Pending) → look next.from ≡ None → IsSearched look q best (rest ++ next ∷ []) → IsSearched look q best rest
+  -- under a bare node there is nothing to visit
+  pub passed : (best : Option Spot) (rest : List Pending) (next : Pending) → is_bare (look next.from) ≡ true → IsSearched look q best (rest ++ next ∷ []) → IsSearched look q best rest
   passed best rest next g s = record { covered = λ r l. by_cover r (s.covered r l); source = s.source }
     where
       by_last : (r : Spot) → IsAwaitedIn look q rest r ⊎ IsAwaited look q next r → Within q best r ⊎ IsAwaitedIn look q rest r
@@ -176,22 +178,23 @@ module _ (look : Nodes) (q : Spot) where
     }
 
 -- each live node is under the root
-way_leads : (look : Nodes) (r : Spot) (k : ℕ) (from : Option ℕ) (j : ℕ) → way look r k from ≡ Some j → IsNodeOf (look j) r → Leads look r k from
-way_leads look r zero from j e h = subst (Leads look r zero) (sym e) h
-way_leads look r (suc k) None j e h = absurd (none_some j e)
-way_leads look r (suc k) (Some i) j e h = way_leads look r k (child_of (look i) r) j e h
+way_leads : (look : Nodes) (r : Spot) (k : ℕ) (from : Option ℕ) (j : ℕ) → way look r k from ≡ Some j → IsNodeOf (look j) r → IsOpenTo look from r k → Leads look r k from
+way_leads look r zero None j e h o = absurd (none_some j e)
+way_leads look r zero (Some i) j e h o = (subst (λ x. IsNodeOf (look x) r) (sym (some_is i j e)) h, o 0 i (omega arith) refl)
+way_leads look r (suc k) None j e h o = absurd (none_some j e)
+way_leads look r (suc k) (Some i) j e h o = (way_leads look r k (child_of (look i) r) j e h (λ d x l w. o (suc d) x (omega arith) w), o 0 i (omega arith) refl)
 
-node_of : (o : Option Node) (r : Spot) → IsNodeOf o r → (n : Node) × (o ≡ Some n) × (n.spot ≡ r)
+node_of : (o : Option Node) (r : Spot) → IsNodeOf o r → (n : Node) × (o ≡ Some n) × (n.spot ≡ r) × (n.live ≡ true)
 node_of None r h = absurd h
-node_of (Some n) r h = (n, refl, h.1)
+node_of (Some n) r h = (n, refl, h.1, h.0)
 
 pub begun : (look : Nodes) (root : Option ℕ) (size : ℕ) (numbers : ℤ → Option ℕ) (q : Spot) → IsTree look root size numbers → IsSearched look q None (pending_at root 0)
 begun look root size numbers q t = record { covered = λ r l. inr (at_root r l.0); source = λ m e. absurd (none_some m e) }
   where
     at_root : (r : Spot) → IsLive look r → IsAwaitedIn look q (pending_at root 0) r
     at_root r l =
-        let n : (n : Node) × (look l.0 ≡ Some n) × (n.spot ≡ r) = node_of (look l.0) r l.1 in
-        awaited_at look q root 0 r (n.0.depth, way_leads look r n.0.depth root l.0 (ap (λ (s : Spot). way look s n.0.depth root) (sym n.2) ∙ t.placed l.0 n.0 n.1) l.1) (omega arith)
+        let n : (n : Node) × (look l.0 ≡ Some n) × (n.spot ≡ r) × (n.live ≡ true) = node_of (look l.0) r l.1 in
+        awaited_at look q root 0 r (n.0.depth, way_leads look r n.0.depth root l.0 (ap (λ (s : Spot). way look s n.0.depth root) (sym n.2) ∙ t.placed l.0 n.0 n.1) l.1 (moved look root n.0.spot r n.0.depth n.0.depth (sym n.2) refl (t.passable l.0 n.0 n.1 n.3))) (omega arith)
 
 -- the same, from what the code computes
 module _ (look : Nodes) (q : Spot) (best : Option Spot) (waiting rest : List Pending) (next : Pending) (e : waiting ≡ rest ++ next ∷ []) where
@@ -202,10 +205,10 @@ module _ (look : Nodes) (q : Spot) (best : Option Spot) (waiting rest : List Pen
       by_best None g p s = absurd (let e : false ≡ true = p.1 in cc)
       by_best (Some n) g p s = skipped look q best rest next n g p.0 s
 
-  pub passed_from : (node : Option Node) → node ≡ look next.from → node ≡ None → IsSearched look q best waiting → IsSearched look q best rest
-  passed_from held f g s = passed look q best rest next (sym f ∙ g) (subst (IsSearched look q best) e s)
+  pub passed_from : is_bare (look next.from) ≡ true → IsSearched look q best waiting → IsSearched look q best rest
+  passed_from g s = passed look q best rest next g (subst (IsSearched look q best) e s)
 
-  pub visited_from : (node : Option Node) (n : Node) (better : Option Spot) (after : List Pending) → node ≡ look next.from → node ≡ Some n → to_plane q n ≤ far → better ≡ nearer q (other_of q n) best → after ≡ rest ++ sides_of q n next.reach
+  pub visited_from : (n : Node) (better : Option Spot) (after : List Pending) → look next.from ≡ Some n → to_plane q n ≤ far → better ≡ nearer q (other_of q n) best → after ≡ rest ++ sides_of q n next.reach
       → IsSearched look q best waiting → IsSearched look q better after
-  visited_from held n better after f g h b a s =
-      subst (IsSearched look q better) (sym a) (subst (λ o. IsSearched look q o (rest ++ sides_of q n next.reach)) (sym b) (visited look q best rest next n (sym f ∙ g) h (subst (IsSearched look q best) e s)))
+  visited_from n better after g h b a s =
+      subst (IsSearched look q better) (sym a) (subst (λ o. IsSearched look q o (rest ++ sides_of q n next.reach)) (sym b) (visited look q best rest next n g h (subst (IsSearched look q best) e s)))

@@ -64,7 +64,7 @@ sides_less look root size numbers q rest next n t g =
 pub less_from : (look : Nodes) (size : ℕ) (waiting rest : List Pending) (next : Pending) → waiting ≡ rest ++ next ∷ [] → work look size rest < work look size waiting
 less_from look size waiting rest next e = subst (λ w. work look size rest < work look size w) (sym e) (less_left look size rest next)
 
-pub sides_from : (look : Nodes) (root : Option ℕ) (size : ℕ) (numbers : ℤ → Option ℕ) (q : Spot) (waiting rest after : List Pending) (next : Pending) (node : Option Node) (n : Node) → IsTree look root size numbers
-    → waiting ≡ rest ++ next ∷ [] → node ≡ look next.from → node ≡ Some n → after ≡ rest ++ sides_of q n next.reach → work look size after < work look size waiting
-sides_from look root size numbers q waiting rest after next held n t e f g a =
-    subst (λ w. work look size after < work look size w) (sym e) (subst (λ w. work look size w < work look size (rest ++ next ∷ [])) (sym a) (sides_less look root size numbers q rest next n t (sym f ∙ g)))
+pub sides_from : (look : Nodes) (root : Option ℕ) (size : ℕ) (numbers : ℤ → Option ℕ) (q : Spot) (waiting rest after : List Pending) (next : Pending) (n : Node) → IsTree look root size numbers
+    → waiting ≡ rest ++ next ∷ [] → look next.from ≡ Some n → after ≡ rest ++ sides_of q n next.reach → work look size after < work look size waiting
+sides_from look root size numbers q waiting rest after next n t e g a =
+    subst (λ w. work look size after < work look size w) (sym e) (subst (λ w. work look size w < work look size (rest ++ next ∷ [])) (sym a) (sides_less look root size numbers q rest next n t g))

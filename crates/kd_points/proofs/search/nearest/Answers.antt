@@ -27,22 +27,22 @@ pub search-preserved-then-is_past : goal.search-preserved-then-is_past
 search-preserved-then-is_past c =
     skipped_from (node_at c.args.tree.now) c.args.q c.search.best c.search.waiting.items c.pop.new.self.items c.in-Some.next c.in-Some.ensures.items (c.is_past.ensures c.if-is_past.true) c.search.invariant
 
-pub search-smaller-in-None-node : goal.search-smaller-in-None-node
-search-smaller-in-None-node c = less_from (node_at c.args.tree.now) (slab_len c.args.tree.now.nodes) c.search.waiting.items c.pop.new.self.items c.in-Some.next c.in-Some.ensures.items
+pub search-smaller-in-None-node_with_points : goal.search-smaller-in-None-node_with_points
+search-smaller-in-None-node_with_points c = less_from (node_at c.args.tree.now) (slab_len c.args.tree.now.nodes) c.search.waiting.items c.pop.new.self.items c.in-Some.next c.in-Some.ensures.items
 
-pub search-preserved-in-None-node : goal.search-preserved-in-None-node
-search-preserved-in-None-node c =
-    passed_from (node_at c.args.tree.now) c.args.q c.search.best c.search.waiting.items c.pop.new.self.items c.in-Some.next c.in-Some.ensures.items c.node.result c.node.ensures c.in-None-node.is c.search.invariant
+pub search-preserved-in-None-node_with_points : goal.search-preserved-in-None-node_with_points
+search-preserved-in-None-node_with_points c =
+    passed_from (node_at c.args.tree.now) c.args.q c.search.best c.search.waiting.items c.pop.new.self.items c.in-Some.next c.in-Some.ensures.items c.in-None-node_with_points.ensures.none c.search.invariant
 
 pub search-smaller : goal.search-smaller
 search-smaller c =
-    sides_from (node_at c.args.tree.now) c.args.tree.now.root (slab_len c.args.tree.now.nodes) (key_of c.args.tree.now) c.args.q c.search.waiting.items c.pop.new.self.items c.push_sides.new.waiting.items c.in-Some.next c.node.result c.in-Some-node.node
-    c.requires.placed c.in-Some.ensures.items c.node.ensures c.in-Some-node.is c.in_ok-push_sides-in-Some-node.ensures.sides
+    sides_from (node_at c.args.tree.now) c.args.tree.now.root (slab_len c.args.tree.now.nodes) (key_of c.args.tree.now) c.args.q c.search.waiting.items c.pop.new.self.items c.push_sides.new.waiting.items c.in-Some.next c.in-Some-node_with_points.node
+    c.requires.placed c.in-Some.ensures.items c.in-Some-node_with_points.ensures.some c.in_ok-push_sides-in-Some-node_with_points.ensures.sides
 
 pub search-preserved : goal.search-preserved
 search-preserved c =
-    visited_from (node_at c.args.tree.now) c.args.q c.search.best c.search.waiting.items c.pop.new.self.items c.in-Some.next c.in-Some.ensures.items c.node.result c.in-Some-node.node c.better-best.result c.push_sides.new.waiting.items
-    c.node.ensures c.in-Some-node.is c.push_sides.ensures.fits c.better-best.ensures c.in_ok-push_sides-in-Some-node.ensures.sides c.search.invariant
+    visited_from (node_at c.args.tree.now) c.args.q c.search.best c.search.waiting.items c.pop.new.self.items c.in-Some.next c.in-Some.ensures.items c.in-Some-node_with_points.node c.better-best.result c.push_sides.new.waiting.items
+    c.in-Some-node_with_points.ensures.some c.push_sides.ensures.fits c.better-best.ensures c.in_ok-push_sides-in-Some-node_with_points.ensures.sides c.search.invariant
 
 pub returns-in-None : goal.returns-in-None
 returns-in-None c =
