@@ -1,4 +1,4 @@
-ghost use Rattle.std.specs.Prelude.{◌≡◌, true, Option, Some, None, is_some, IfSome, IfNone};
+ghost use Rattle.std.specs.Prelude.{◌≡◌, true, false, Option, Some, None, is_some, IfSome, IfNone};
 ghost use Rattle.slab.specs.Slab.{Updates};
 ghost use Rattle.kd_points.specs.Trees.{is_bare, all_bare};
 ghost use Rattle.kd_points.specs.TreeStates.{node_at, tree_state, IsSound, IsClear, KeepsNodes, IsVeiled};
@@ -42,6 +42,16 @@ impl Tree {
         ensures { IsVeiled self.old self.new key bare }
     {
         self.rewrite(key, Node { bare, ..node });
+    }
+
+    /// Notes that something may be live under a node.
+    fn unveil(&mut self, key: usize, node: Node)
+        requires { node_at self.old key ≡ Some node }
+        ensures { IsVeiled self.old self.new key false }
+    {
+        if node.bare {
+            self.note_bare(key, node, false);
+        }
     }
 
     /// Notes that nothing is live under a node, where that is so, and answers the node above it.
@@ -91,9 +101,7 @@ impl Tree {
         };
         'walk: loop {
             let node = self.node_in(at);
-            if node.bare {
-                self.note_bare(at, node, false);
-            }
+            self.unveil(at, node);
             match child(node, is_left(node, spot)) {
                 None => return,
                 Some(next) => at = next,

@@ -6,7 +6,7 @@ use Rattle.kd_points.proofs.trees.Veils.{IsClearing}
 use Rattle.kd_points.proofs.tree.Tree.clear_way.Given as goal
 
 abbrev pub invariant-walk : goal.invariant-walk
-invariant-walk l = IsClearing l.old.self l.self l.spot l.at
+invariant-walk l = IsClearing l.fn.self l.self l.spot l.at
 
 abbrev pub decreases-walk : goal.decreases-walk
 decreases-walk l = slab_len l.self.nodes - depth_or_zero (node_at l.self l.at)
