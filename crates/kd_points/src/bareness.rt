@@ -15,11 +15,7 @@ impl Tree {
     {
         match self.node(key) {
             None => None,
-            Some(node) => if node.bare {
-                None
-            } else {
-                Some(node)
-            },
+            Some(node) => if node.bare { None } else { Some(node) },
         }
     }
 
@@ -62,7 +58,10 @@ impl Tree {
         ensures kept { KeepsNodes self.old self.new }
     {
         let node = self.node(key)?;
-        if node.live || node.bare || !self.is_bare_side(node.left) || !self.is_bare_side(node.right)
+        if node.live
+            || node.bare
+            || !self.is_bare_side(node.left)
+            || !self.is_bare_side(node.right)
         {
             return None;
         }

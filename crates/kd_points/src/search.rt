@@ -102,7 +102,7 @@ fn is_past(reach: u128, q: Spot, best: Best) -> bool
     requires { best.reach ≡ reach_of q best.point }
     ensures { result ≡ past q best.point reach }
 {
-    best.reach < reach
+    reach > best.reach
 }
 
 fn push_side(waiting: &mut Vec<Pending>, side: Option<usize>, reach: u128) -> Result<(), NoMemory>

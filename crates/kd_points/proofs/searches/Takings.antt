@@ -1,36 +1,11 @@
 -- When a point takes the place of the best so far, and what is farther than that.
-use Rattle.std.specs.Prelude.{◌≡◌, ℕ, ◌<◌, ◌≤◌, ◌+◌, Bool, true, false, not, nat_lt, min, if◌then◌else◌, Option, Some, None, refl}
+use Rattle.std.specs.Prelude.{◌≡◌, ℕ, ◌<◌, ◌≤◌, ◌+◌, true, false, not, nat_lt, min, Option, Some, None, refl}
 use Rattle.std.proofs.Common.{sym, ◌∙◌, ap, subst, arith}
 use Rattle.gx_base.specs.declared.calls.Spot.{Spot}
-use Rattle.gx_base.specs.PointKind.{nearer}
 use Rattle.gx_base.specs.Spots.{square, beyond, distance, far}
-use Rattle.kind_tables.proofs.CallerLemmas.{not_true}
-use Rattle.kd_points.specs.declared.nodes.Node.{Node}
-use Rattle.kd_points.specs.Searches.{reach_of, is_past, takes, is_other, other_of}
+use Rattle.kd_points.specs.Searches.{reach_of, is_past, takes}
 use Rattle.kd_points.proofs.searches.Searched.{Within}
 use Rattle.kd_points.proofs.searches.Pruning.{by_distance, by_farther}
-
-not_false : (b : Bool) → not b ≡ false → b ≡ true
-not_false true e = refl
-not_false false e = absurd (cc)
-
-pub taken_point : (q c : Spot) (best : Option Spot) → takes q c best ≡ true → nearer q (Some c) best ≡ Some c
-taken_point q c None e = refl
-taken_point q c (Some m) e = ap (λ b. Some (if b then m else c)) (not_true (beyond q c m) e)
-
-pub left_point : (q c : Spot) (best : Option Spot) → takes q c best ≡ false → nearer q (Some c) best ≡ best
-left_point q c None e = absurd (cc)
-left_point q c (Some m) e = ap (λ b. Some (if b then m else c)) (not_false (beyond q c m) e)
-
--- the same, from what the code computes
-pub other_taken : (q : Spot) (n : Node) (best : Option Spot) (other taking : Bool) → other ≡ is_other q n → other ≡ true → taking ≡ takes q n.spot best → taking ≡ true → Some n.spot ≡ nearer q (other_of q n) best
-other_taken q n best other taking e f g h = sym (ap (λ b. nearer q (if b then Some n.spot else None) best) (sym e ∙ f) ∙ taken_point q n.spot best (sym g ∙ h))
-
-pub other_left : (q : Spot) (n : Node) (best : Option Spot) (other taking : Bool) → other ≡ is_other q n → other ≡ true → taking ≡ takes q n.spot best → taking ≡ false → best ≡ nearer q (other_of q n) best
-other_left q n best other taking e f g h = sym (ap (λ b. nearer q (if b then Some n.spot else None) best) (sym e ∙ f) ∙ left_point q n.spot best (sym g ∙ h))
-
-pub none_there : (q : Spot) (n : Node) (best : Option Spot) (other : Bool) → other ≡ is_other q n → other ≡ false → best ≡ nearer q (other_of q n) best
-none_there q n best other e f = sym (ap (λ b. nearer q (if b then Some n.spot else None) best) (sym e ∙ f))
 
 pub takes_nearer : (q c m : Spot) (best : Option Spot) (reach own : ℕ) → best ≡ Some m → reach ≡ distance q c → own ≡ reach_of q best → reach < own → true ≡ takes q c best
 takes_nearer q c m best reach own e f g h =

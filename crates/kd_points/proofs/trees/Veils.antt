@@ -131,12 +131,15 @@ clearing_begun tree spot root s e =
 
 -- the node here isn't bare any more
 pub clearing_noted : (old mid new : Tree) (spot : Spot) (at : ℕ) (n : Node) → IsClearing old mid spot at → node_at mid at ≡ Some n → IsVeiled mid new at false → IsClearing old new spot at × (is_bare (node_at new at) ≡ false)
-clearing_noted old mid new spot at n c g w = (record {
-  same = same_then old mid new c.same (unveiled mid new at n false c.same.sound g w refl);
-  there = ap is_some here_now;
-  on_way = ap (λ d. way (node_at new) spot d new.root) depth_same ∙ ap (way (node_at new) spot (depth_or_zero (node_at mid at))) root ∙ way_kept (node_at mid) (node_at new) (veiled_stays mid new at n false c.same.sound g w) spot (depth_or_zero (node_at mid at)) mid.root at c.on_way;
-  above = λ k j h e. still k j (subst (λ d. k < d) depth_same h) e (same_key j at);
-}, ap is_bare here_now)
+clearing_noted old mid new spot at n c g w = (
+  record {
+    same = same_then old mid new c.same (unveiled mid new at n false c.same.sound g w refl);
+    there = ap is_some here_now;
+    on_way = ap (λ d. way (node_at new) spot d new.root) depth_same ∙ ap (way (node_at new) spot (depth_or_zero (node_at mid at))) root ∙ way_kept (node_at mid) (node_at new) (veiled_stays mid new at n false c.same.sound g w) spot (depth_or_zero (node_at mid at)) mid.root at c.on_way;
+    above = λ k j h e. still k j (subst (λ d. k < d) depth_same h) e (same_key j at);
+  },
+  ap is_bare here_now,
+)
   where
     here_now : node_at new at ≡ Some (record n { bare = false })
     here_now = (w.nodes n g).changed

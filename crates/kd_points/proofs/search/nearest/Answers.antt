@@ -13,9 +13,11 @@ begun_items : (empty items : List Pending) (root given : Option ℕ) → empty �
 begun_items empty items root given e f g = g ∙ ap (λ xs. xs ++ pending_at root 0) e ∙ ap (λ o. pending_at o 0) f
 
 pub search-init : goal.search-init
-search-init c =
-    (refl, subst (IsSearched (node_at c.args.tree.now) c.args.q None) (sym (begun_items c.in_ok-waiting.waiting.items c.push_side.new.waiting.items c.root.result c.args.tree.now.root c.in_ok-waiting.ensures.items c.root.ensures c.in_ok-push_side.ensures))
-    (begun (node_at c.args.tree.now) c.args.tree.now.root (slab_len c.args.tree.now.nodes) (key_of c.args.tree.now) c.args.q c.requires.placed))
+search-init c = (
+  refl,
+  subst (IsSearched (node_at c.args.tree.now) c.args.q None) (sym (begun_items c.in_ok-waiting.waiting.items c.push_side.new.waiting.items c.root.result c.args.tree.now.root c.in_ok-waiting.ensures.items c.root.ensures c.in_ok-push_side.ensures))
+      (begun (node_at c.args.tree.now) c.args.tree.now.root (slab_len c.args.tree.now.nodes) (key_of c.args.tree.now) c.args.q c.requires.placed),
+)
 
 emptied : (waiting rest : List Pending) (n : ℕ) → waiting ≡ rest ++ [] → rest ≡ take (n - 1) waiting → n ≡ 0 → waiting ≡ []
 emptied waiting rest n e r z = e ∙ ap (λ xs. xs ++ []) (r ∙ ap (λ m. take (m - 1) waiting) z)
@@ -40,9 +42,11 @@ search-smaller c =
     c.requires.placed c.in-Some.ensures.items c.in-Some-node_with_points.ensures.some c.in_ok-push_sides-in-Some-node_with_points.ensures.sides
 
 pub search-preserved : goal.search-preserved
-search-preserved c =
-    (c.better-best.ensures.reach, visited_from (node_at c.args.tree.now) c.args.q c.search.best.point c.search.waiting.items c.pop.new.self.items c.in-Some.next c.in-Some.ensures.items c.in-Some-node_with_points.node c.better-best.result.point c.push_sides.new.waiting.items
-    c.in-Some-node_with_points.ensures.some c.push_sides.ensures.fits c.better-best.ensures.point c.in_ok-push_sides-in-Some-node_with_points.ensures.sides c.search.invariant.1)
+search-preserved c = (
+  c.better-best.ensures.reach,
+  visited_from (node_at c.args.tree.now) c.args.q c.search.best.point c.search.waiting.items c.pop.new.self.items c.in-Some.next c.in-Some.ensures.items c.in-Some-node_with_points.node c.better-best.result.point c.push_sides.new.waiting.items
+      c.in-Some-node_with_points.ensures.some c.push_sides.ensures.fits c.better-best.ensures.point c.in_ok-push_sides-in-Some-node_with_points.ensures.sides c.search.invariant.1,
+)
 
 pub returns-in-None : goal.returns-in-None
 returns-in-None c =
