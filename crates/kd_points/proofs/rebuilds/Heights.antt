@@ -1,5 +1,5 @@
 -- How deep a tree is that is made by halves.
-use Rattle.std.specs.Prelude.{◌≡◌, ℕ, suc, ◌+◌, ◌*◌, ◌/◌, ◌^◌, ◌≤◌, Option, Some, None, List, ◌∷◌, ◌++◌, length, is_some, true, false, count_by, slice_index_or, Result, Ok, Err, OnOk, refl, ◌⊎◌}
+use Rattle.std.specs.Prelude.{◌≡◌, ℕ, suc, ◌+◌, ◌*◌, ◌/◌, ◌^◌, ◌≤◌, Option, Some, None, List, ◌∷◌, ◌++◌, length, is_some, true, false, count_by, slice_index_or, Result, Ok, Err, OnOk, ◌⊎◌}
 use Rattle.std.proofs.Common.{sym, ◌∙◌, ap, arith, inl, inr, length-append}
 use Rattle.std.proofs.Math.Nat.{pow-suc}
 use Rattle.std.specs.List.Sorted.{IsPermutation}

@@ -2,7 +2,7 @@
 use Rattle.std.specs.Prelude.{◌≡◌, ℕ, ◌<◌, ◌≤◌, ◌+◌, true, false, not, nat_lt, min, Option, Some, None, refl}
 use Rattle.std.proofs.Common.{sym, ◌∙◌, ap, subst, arith}
 use Rattle.gx_base.specs.declared.calls.Spot.{Spot}
-use Rattle.gx_base.specs.Spots.{square, beyond, distance, far}
+use Rattle.gx_base.specs.Spots.{square, distance, far}
 use Rattle.kd_points.specs.Searches.{reach_of, is_past, takes}
 use Rattle.kd_points.proofs.searches.Searched.{Within}
 use Rattle.kd_points.proofs.searches.Pruning.{by_distance, by_farther}

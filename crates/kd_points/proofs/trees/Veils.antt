@@ -1,13 +1,13 @@
 -- What a tree is after it is noted whether a node is bare.
 use Rattle.std.specs.Prelude.{◌≡◌, ℕ, zero, suc, ◌<◌, ◌≤◌, ℤ, Bool, true, false, Option, Some, None, is_some, refl, ◌⊎◌}
 use Rattle.std.proofs.Common.{sym, ◌∙◌, ap, subst, arith, inl, inr}
-use Rattle.slab.specs.Slab.{slab_len, Updates}
+use Rattle.slab.specs.Slab.{slab_len}
 use Rattle.gx_base.specs.declared.calls.Spot.{Spot}
 use Rattle.kd_points.specs.declared.nodes.Node.{Node}
 use Rattle.kd_points.specs.declared.tree.Tree.{Tree}
 use Rattle.kd_points.specs.Trees.{is_left, child, child_of, way, depth_of, is_bare, all_bare, IsTree, IsOpenTo}
 use Rattle.kd_points.specs.TreeStates.{node_at, key_of, row_of_node, tree_state, count_of, IsSound, IsClear, KeepsNodes, IsVeiled}
-use Rattle.kd_points.proofs.states.Basics.{same_key, none_some, some_is, not_both}
+use Rattle.kd_points.proofs.states.Basics.{same_key, none_some, some_is}
 use Rattle.kd_points.proofs.states.StateRows.{with_rows, row_found, rows_of-same, row_of_alike}
 use Rattle.kd_points.proofs.trees.Ways.{AllStay, way_further, way_kept, way_over}
 use Rattle.kd_points.proofs.trees.Openings.{prefix, moved, less_or, nobody_under}
