@@ -1,8 +1,10 @@
 pub mod LiveNodes
 pub mod Ways
 pub mod Holders
+pub mod Openings
 pub mod Marks
 pub mod Seats
 pub mod Changes
+pub mod Veils
 pub mod Growth
 pub mod Hung

@@ -16,7 +16,7 @@ use Rattle.gx_base.specs.Steps.{IsState}
 use Rattle.gx_base.proofs.CallerLemmas.{point_deed-foreign}
 use Rattle.kd_points.specs.declared.point_set.KdPoints.{KdPoints}
 use Rattle.kd_points.specs.TreeStates.{tree_state, dead_nodes, has_node}
-use Rattle.kd_points.specs.Rebuilding.{IsLeanTree}
+use Rattle.kd_points.specs.Rebuilding.{IsLeanTree, IsBalancedTree}
 use Rattle.kd_points.specs.TreePlaces.{tree_state-HoldsPlaces}
 
 -- the state of points
@@ -53,6 +53,10 @@ dead_nodes_of points = dead_nodes points.tree
 -- a rebuild would be for little
 abbrev pub IsTrim : KdPoints → Type 0
 IsTrim points = IsLeanTree points.tree
+
+-- no point stands deeper in the tree than halving the points takes
+abbrev pub IsBalanced : KdPoints → Type 0
+IsBalanced points = IsBalancedTree points.tree
 
 abbrev pub holds_points : Kind → Bool
 holds_points Points = true

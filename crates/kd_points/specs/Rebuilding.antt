@@ -1,5 +1,5 @@
 -- A tree that is made anew, out of a list of points.
-use Rattle.std.specs.Prelude.{◌≡◌, ◌*◌, ◌≤◌, ℤ, true, is_some, Some, List, ◌⊎◌}
+use Rattle.std.specs.Prelude.{◌≡◌, ◌+◌, ◌*◌, ◌^◌, ◌≤◌, ℕ, ℤ, true, is_some, Some, List, ◌⊎◌}
 use Rattle.std.specs.List.{Contains, IsDistinct}
 use Rattle.std.specs.Ordering.{int_eq}
 use Rattle.gx_base.specs.declared.calls.Spot.{Spot}
@@ -8,8 +8,8 @@ use Rattle.slab.specs.Slab.{slab_len}
 use Rattle.kd_points.specs.declared.rebuild.TheConstants.{LEAST_REBUILT}
 use Rattle.kd_points.specs.declared.nodes.Seat.{Seat}
 use Rattle.kd_points.specs.declared.tree.Tree.{Tree}
-use Rattle.kd_points.specs.Trees.{IsSeat}
-use Rattle.kd_points.specs.TreeStates.{node_at, tree_state, dead_nodes, IsSound, NoPoint}
+use Rattle.kd_points.specs.Trees.{IsSeat, depth_of}
+use Rattle.kd_points.specs.TreeStates.{node_at, tree_state, dead_nodes, IsSound, NoPoint, NoneBare}
 
 -- this is a point of the tree
 abbrev pub IsPointOf : Tree → Spot → Type 0
@@ -23,10 +23,11 @@ HasPoint tree id = is_some (spot_at (tree_state tree) id) ≡ true
 abbrev pub HaveOwnIds : List Spot → Type 0
 HaveOwnIds spots = IsDistinct (λ p q. int_eq p.id q.id) spots
 
--- the spots may all be put in at the seat: no id has a point yet, or stands twice
+-- the spots may all be put in at the seat: no id has a point yet, or stands twice, and no node is bare
 pub record AreNew (tree : Tree) (spots : List Spot) (seat : Seat) : Type 0 where
   pub own : HaveOwnIds spots
   pub free : (r : Spot) → Contains spots r → NoPoint tree r.id
+  pub bare : NoneBare tree
   pub seated : (r : Spot) → Contains spots r → IsSeat (node_at tree) tree.root r seat
 
 -- the points of the new tree are those of the old one and of these; each id that had a point, or is one of these, has one;
@@ -37,12 +38,23 @@ pub record Gathers (old new : Tree) (spots : List Spot) : Type 0 where
   pub all : (r : Spot) → Contains spots r → HasPoint new r.id
   pub dead : dead_nodes new ≤ dead_nodes old
 
--- the new tree has the same points, and no dead nodes; no node counts as put in by itself
+-- so many nodes are new: they stand no deeper below this depth than halving so many takes, and the others as before
+pub record IsLow (old new : Tree) (depth count : ℕ) : Type 0 where
+  pub fresh : (j d : ℕ) → depth_of (node_at new j) ≡ Some d → (depth_of (node_at old j) ≡ Some d) ⊎ ((e : ℕ) × (d ≡ depth + e) × (2 ^ e ≤ count))
+  pub stay : (j d : ℕ) → depth_of (node_at old j) ≡ Some d → depth_of (node_at new j) ≡ Some d
+  pub size : slab_len new.nodes ≡ slab_len old.nodes + count
+
+-- no node stands deeper than halving the nodes takes
+abbrev pub IsBalancedTree : Tree → Type 0
+IsBalancedTree tree = (j d : ℕ) → depth_of (node_at tree j) ≡ Some d → 2 ^ d ≤ slab_len tree.nodes
+
+-- the new tree has the same points, and no dead nodes; no node counts as put in by itself, and none stands deep
 pub record IsRebuilt (old new : Tree) : Type 0 where
   pub sound : IsSound new
   pub state : tree_state new ≡ tree_state old
   pub none_dead : dead_nodes new ≡ 0
   pub none_grown : new.grown ≡ 0
+  pub balanced : IsBalancedTree new
 
 -- the tree has fewer nodes than are rebuilt, or at most half of its nodes are dead, and at most half were put in one by one
 abbrev pub IsLeanTree : Tree → Type 0

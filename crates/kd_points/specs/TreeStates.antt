@@ -1,5 +1,5 @@
 -- What a tree of points stands for.
-use Rattle.std.specs.Prelude.{◌≡◌, ℕ, ◌+◌, ◌-◌, ℤ, Bool, true, false, cond, ◌&&◌, ◌||◌, Option, Some, None, List, [], ◌∷◌, if◌then◌else◌}
+use Rattle.std.specs.Prelude.{◌≡◌, ℕ, ◌+◌, ◌-◌, ℤ, Bool, true, false, cond, ◌&&◌, ◌||◌, Option, Some, None, List, [], ◌∷◌, if◌then◌else◌, ◌⊎◌}
 use Rattle.std.specs.FinMap as map
 use Rattle.std.specs.Map.{lookup}
 use Rattle.std.specs.Ordering.{int_eq, is_lt}
@@ -13,7 +13,7 @@ use Rattle.kd_points.specs.declared.nodes.Node.{Node}
 use Rattle.kd_points.specs.declared.nodes.Seat.{Seat}
 use Rattle.kd_points.specs.declared.nodes.Seat.TheVariants.{Free}
 use Rattle.kd_points.specs.declared.tree.Tree.{Tree}
-use Rattle.kd_points.specs.Trees.{Nodes, spot_cmp, is_point_of, IsTree, IsSeat}
+use Rattle.kd_points.specs.Trees.{Nodes, spot_cmp, is_point_of, IsTree, IsSeat, way, is_bare, depth_of, seat_depth}
 
 -- the node of a key
 abbrev pub node_at : Tree → Nodes
@@ -94,11 +94,20 @@ pub record IsPlanted (old new : Tree) (key : ℕ) (node : Node) : Type 0 where
 abbrev pub SeatsStay : Tree → Tree → Seat → Type 0
 SeatsStay old new seat = (r : Spot) (j : ℕ) (left : Bool) → IsSeat (node_at old) old.root r (Free j left) → (Free j left ≡ seat → ⊥) → IsSeat (node_at new) new.root r (Free j left)
 
+-- no node is bare
+abbrev pub NoneBare : Tree → Type 0
+NoneBare tree = (j : ℕ) (n : Node) → node_at tree j ≡ Some n → n.bare ≡ false
+
 -- a new node has this key: what belonged at its seat belongs on one of its sides now
 pub record IsBelow (old new : Tree) (seat : Seat) (spot : Spot) (axis : Axis) (key : ℕ) : Type 0 where
   pub vacant : node_at old key ≡ None
   pub below : (r : Spot) → IsSeat (node_at old) old.root r seat → IsSeat (node_at new) new.root r (Free key (is_lt (spot_cmp axis r spot)))
   pub beside : SeatsStay old new seat
+  pub deep : depth_of (node_at new key) ≡ Some (seat_depth (node_at old) seat)
+  pub other_depths : (j d : ℕ) → depth_of (node_at new j) ≡ Some d → (j ≡ key) ⊎ (depth_of (node_at old j) ≡ Some d)
+  pub depths_stay : (j d : ℕ) → depth_of (node_at old j) ≡ Some d → depth_of (node_at new j) ≡ Some d
+  pub size : slab_len new.nodes ≡ slab_len old.nodes + 1
+  pub none_bare : NoneBare old → NoneBare new
 
 -- the tree has no nodes
 pub record IsBlank (tree : Tree) : Type 0 where
@@ -107,3 +116,13 @@ pub record IsBlank (tree : Tree) : Type 0 where
   pub root : tree.root ≡ None
   pub live : tree.live ≡ 0
   pub grown : tree.grown ≡ 0
+
+-- no node on the spot's way is bare
+abbrev pub IsClear : Tree → Spot → Type 0
+IsClear tree r = (k j : ℕ) → way (node_at tree) r k tree.root ≡ Some j → is_bare (node_at tree j) ≡ false
+
+-- it is noted whether a node is bare, and nothing else has changed
+pub record IsVeiled (old new : Tree) (key : ℕ) (bare : Bool) : Type 0 where
+  pub nodes : (n : Node) → node_at old key ≡ Some n → Updates old.nodes new.nodes key (Some (record n { bare = bare }))
+  pub size : slab_len new.nodes ≡ slab_len old.nodes
+  pub rest : new ≡ record old { nodes = new.nodes }

@@ -1,5 +1,5 @@
 -- Trees of points: which node stands where, and where the way of a spot leads.
-use Rattle.std.specs.Prelude.{◌≡◌, ℕ, zero, suc, ◌<◌, ℤ, Bool, true, false, Option, Some, None, is_some, ◌&&◌, if◌then◌else◌, FitsSigned}
+use Rattle.std.specs.Prelude.{◌≡◌, ℕ, zero, suc, ◌<◌, ◌≤◌, ℤ, Bool, true, false, Option, Some, None, is_some, ◌&&◌, if◌then◌else◌, FitsSigned}
 use Rattle.std.specs.Int.{w64}
 use Rattle.std.specs.Ordering.{int_cmp, int_eq, ordering_then, is_lt}
 use Rattle.std.specs.declared.cmp.Ordering.{Ordering}
@@ -30,8 +30,8 @@ abbrev pub child : Node → Bool → Option ℕ
 child n left = if left then n.left else n.right
 
 -- a new node
-abbrev pub leaf_of : Axis → Spot → ℕ → Node
-leaf_of axis spot depth = record { spot = spot; live = true; axis = axis; depth = depth; left = None; right = None }
+abbrev pub leaf_of : Axis → Spot → ℕ → Option ℕ → Node
+leaf_of axis spot depth up = record { spot = spot; live = true; bare = false; axis = axis; depth = depth; up = up; left = None; right = None }
 
 -- the node with a child on a side
 abbrev pub linked : Node → Bool → ℕ → Node
@@ -57,6 +57,20 @@ abbrev pub depth_of : Option Node → Option ℕ
 depth_of None = None
 depth_of (Some n) = Some n.depth
 
+-- nothing is live under the node, as is noted there
+abbrev pub is_bare : Option Node → Bool
+is_bare None = true
+is_bare (Some n) = n.bare
+
+-- nothing is live under this child, or there is none
+abbrev pub all_bare : Nodes → Option ℕ → Bool
+all_bare look None = true
+all_bare look (Some c) = is_bare (look c)
+
+-- none of the first nodes on the spot's way is bare, as far as to this depth
+abbrev pub IsOpenTo : Nodes → Option ℕ → Spot → ℕ → Type 0
+IsOpenTo look root r depth = (k j : ℕ) → k ≤ depth → way look r k root ≡ Some j → is_bare (look j) ≡ false
+
 -- the node holds the point of this id
 abbrev pub is_point_of : ℤ → Node → Bool
 is_point_of id n = n.live && int_eq n.spot.id id
@@ -66,7 +80,7 @@ abbrev pub FitsSpot : Spot → Type 0
 FitsSpot r = FitsSigned w64 r.id × FitsSigned w64 r.x × FitsSigned w64 r.y × FitsSigned w64 r.z
 
 -- a tree of so many nodes: each stands, live or not, where the way of its spot leads from the root after as many steps as
--- its depth says. The numbers lead to the key of the live node of each id
+-- its depth says. The numbers lead to the key of the live node of each id, and no node on the way to a live one is bare
 pub record IsTree (look : Nodes) (root : Option ℕ) (size : ℕ) (numbers : ℤ → Option ℕ) : Type 0 where
   pub rooted : (r : ℕ) → root ≡ Some r → depth_of (look r) ≡ Some 0
   pub placed : (i : ℕ) (n : Node) → look i ≡ Some n → way look n.spot n.depth root ≡ Some i
@@ -75,6 +89,7 @@ pub record IsTree (look : Nodes) (root : Option ℕ) (size : ℕ) (numbers : ℤ
   pub numbered : (i : ℕ) (n : Node) → look i ≡ Some n → is_some (numbers n.spot.id) ≡ true
   pub owned : (i : ℕ) (n : Node) → look i ≡ Some n → n.live ≡ true → numbers n.spot.id ≡ Some i
   pub fits : (i : ℕ) (n : Node) → look i ≡ Some n → FitsSpot n.spot
+  pub passable : (i : ℕ) (n : Node) → look i ≡ Some n → n.live ≡ true → IsOpenTo look root n.spot n.depth
 
 -- the key stands for the id, and its node holds the point of this id
 pub record IsOwner (look : Nodes) (numbers : ℤ → Option ℕ) (id : ℤ) (key : ℕ) : Type 0 where
@@ -96,3 +111,14 @@ abbrev pub is_found : Seat → Bool
 is_found (Found j) = true
 is_found (Free j left) = false
 is_found Empty = false
+
+-- how deep a child of the node stands
+abbrev pub depth_below : Option Node → ℕ
+depth_below None = 0
+depth_below (Some n) = suc n.depth
+
+-- how deep a new node at the seat stands
+abbrev pub seat_depth : Nodes → Seat → ℕ
+seat_depth look (Found j) = 0
+seat_depth look (Free j left) = depth_below (look j)
+seat_depth look Empty = 0

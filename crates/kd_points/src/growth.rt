@@ -4,7 +4,7 @@ ghost use Rattle.gx_base.specs.States.{with_row};
 ghost use Rattle.slab.specs.Slab.{slab_len, Updates};
 ghost use Rattle.kd_points.specs.Trees as trees;
 ghost use Rattle.kd_points.specs.declared.nodes.Node.{Node};
-ghost use Rattle.kd_points.specs.TreeStates.{node_at, key_of, place, tree_state, count_of, dead_nodes, IsSound, IsAlike, IsPlanted, IsBelow, has_node, NoPoint, KeepsNodes};
+ghost use Rattle.kd_points.specs.TreeStates.{node_at, key_of, place, tree_state, count_of, dead_nodes, IsSound, IsAlike, IsPlanted, IsBelow, IsClear, has_node, NoPoint, KeepsNodes};
 
 use crate::nodes::{Axis, Node, Seat, crossed, leaf, link};
 use crate::tree::Tree;
@@ -12,7 +12,7 @@ use gx_base::{NoMemory, Spot};
 
 impl Tree {
     /// Writes a node in the place of another.
-    fn rewrite(&mut self, key: usize, node: Node)
+    pub(crate) fn rewrite(&mut self, key: usize, node: Node)
         requires { is_some (node_at self.old key) ≡ true }
         ensures nodes { Updates self.old.nodes self.new.nodes key (Some node) }
         ensures count { slab_len self.new.nodes ≡ slab_len self.old.nodes }
@@ -30,17 +30,7 @@ impl Tree {
         ensures rest { self.new ≡ record self.old { nodes = self.new.nodes } }
     {
         let node = self.node_in(key);
-        self.rewrite(
-            key,
-            Node {
-                spot: node.spot,
-                live,
-                axis: node.axis,
-                depth: node.depth,
-                left: node.left,
-                right: node.right,
-            },
-        );
+        self.rewrite(key, Node { live, ..node });
     }
 
     /// Takes the point of a number out, where there is one: its node stays, and is dead.
@@ -55,6 +45,7 @@ impl Tree {
             Some(key) => {
                 self.mark(key, false);
                 self.live -= 1;
+                self.bury(key);
             }
         }
     }
@@ -82,6 +73,7 @@ impl Tree {
         requires sound { IsSound self.old }
         requires free { NoPoint self.old spot.id }
         requires there { trees.IsSeat (node_at self.old) self.old.root spot (Seat.Found key) }
+        requires clear { IsClear self.old spot }
         ensures sound { IsSound self.new }
         ensures state { tree_state self.new ≡ with_row (tree_state self.old) (0, spot.id) (Some (place spot)) }
         ensures kept { KeepsNodes self.old self.new }
@@ -100,6 +92,7 @@ impl Tree {
         ensures kept { KeepsNodes self.old self.new }
     {
         self.take_out(spot.id);
+        self.clear_way(spot);
         if let Seat::Found(key) = self.seek(spot) {
             self.wake(key, spot);
         }
@@ -122,6 +115,7 @@ impl Tree {
         requires sound { IsSound self.old }
         requires free { NoPoint self.old spot.id }
         requires seat { trees.IsSeat (node_at self.old) self.old.root spot (Seat.Free at left) }
+        requires clear { IsClear self.old spot }
         ensures sound { IsSound self.new }
         ensures ok { OnOk result (tree_state self.new ≡ with_row (tree_state self.old) (0, spot.id) (Some (place spot))) }
         ensures room { OnOk result (has_node self.new spot ≡ true) }
@@ -133,7 +127,7 @@ impl Tree {
         let parent = self.node_in(at);
         let nodes = self.nodes.len();
         prove!(parent.depth < nodes);
-        let key = self.plant(leaf(axis, spot, parent.depth + 1))?;
+        let key = self.plant(leaf(axis, spot, parent.depth + 1, Some(at)))?;
         self.rewrite(at, link(parent, left, key));
         self.count_one();
         Ok(key)
@@ -152,7 +146,7 @@ impl Tree {
         ensures err { OnErr result (tree_state self.new ≡ tree_state self.old) }
         ensures kept { KeepsNodes self.old self.new }
     {
-        let key = self.plant(leaf(axis, spot, 0))?;
+        let key = self.plant(leaf(axis, spot, 0, None))?;
         self.root = Some(key);
         self.count_one();
         Ok(key)
@@ -169,6 +163,7 @@ impl Tree {
         requires free { NoPoint self.old spot.id }
         requires seat { trees.IsSeat (node_at self.old) self.old.root spot seat }
         requires open { trees.is_found seat ≡ false }
+        requires clear { IsClear self.old spot }
         ensures sound { IsSound self.new }
         ensures ok { OnOk result (tree_state self.new ≡ with_row (tree_state self.old) (0, spot.id) (Some (place spot))) }
         ensures room { OnOk result (has_node self.new spot ≡ true) }
@@ -194,6 +189,7 @@ impl Tree {
         ensures err { OnErr result (tree_state self.new ≡ tree_state self.old) }
         ensures kept { KeepsNodes self.old self.new }
     {
+        self.clear_way(spot);
         match self.seek(spot) {
             Seat::Found(key) => self.wake(key, spot),
             Seat::Free(at, left) => {

@@ -8,6 +8,7 @@
 //! says that these are valid.
 #![tactic(auto)]
 
+mod bareness;
 mod growth;
 pub mod laws;
 mod nodes;

@@ -11,13 +11,16 @@ pub enum Axis {
     Y,
 }
 
-/// A node of the tree with its point. One that isn't live was taken out.
+/// A node of the tree with its point. One that isn't live was taken out. Under one that is bare nothing is live, so a
+/// search passes it by; which nodes are bare, and which node is above one, matters for speed alone.
 #[derive(Clone, Copy, Drop)]
 pub struct Node {
     pub spot: Spot,
     pub live: bool,
+    pub bare: bool,
     pub axis: Axis,
     pub depth: usize,
+    pub up: Option<usize>,
     pub left: Option<usize>,
     pub right: Option<usize>,
 }
@@ -97,14 +100,16 @@ pub fn is_same(p: Spot, q: Spot) -> bool
 }
 
 /// A node without children.
-pub fn leaf(axis: Axis, spot: Spot, depth: usize) -> Node
-    ensures { result ≡ trees.leaf_of axis spot depth }
+pub fn leaf(axis: Axis, spot: Spot, depth: usize, up: Option<usize>) -> Node
+    ensures { result ≡ trees.leaf_of axis spot depth up }
 {
     Node {
         spot,
         live: true,
+        bare: false,
         axis,
         depth,
+        up,
         left: None,
         right: None,
     }
@@ -116,21 +121,13 @@ pub fn link(node: Node, left: bool, key: usize) -> Node
 {
     if left {
         Node {
-            spot: node.spot,
-            live: node.live,
-            axis: node.axis,
-            depth: node.depth,
             left: Some(key),
-            right: node.right,
+            ..node
         }
     } else {
         Node {
-            spot: node.spot,
-            live: node.live,
-            axis: node.axis,
-            depth: node.depth,
-            left: node.left,
             right: Some(key),
+            ..node
         }
     }
 }

@@ -175,7 +175,7 @@ impl SeqType for KdPoints {
     ghost use Rattle.gx_base.specs.ShippedTables.{IsShipped};
     ghost use Rattle.gx_base.specs.Steps.{next_state, reply_to, inverse};
     ghost use Rattle.kd_points.specs.PointTables.{point_tables};
-    ghost use Rattle.kd_points.specs.PointsState.{points_state, distances_taken, has_points_room, dead_nodes_of, IsTrim, holds_points, foreign-has_points_room, points_state-IsState};
+    ghost use Rattle.kd_points.specs.PointsState.{points_state, distances_taken, has_points_room, dead_nodes_of, IsTrim, IsBalanced, holds_points, foreign-has_points_room, points_state-IsState};
     ghost use Rattle.kd_points.specs.SuitedTables.{point_tables-SuitKind};
 
     ghost state = { points_state };
@@ -257,6 +257,7 @@ impl SeqType for KdPoints {
         ensures looked { distances_taken self.new ≡ distances_taken self.old }
         ensures trim { OnOk result (IsTrim self.new) }
         ensures dropped { ¬ (IsTrim self.old) → OnOk result (dead_nodes_of self.new ≡ 0) }
+        ensures balanced { ¬ (IsTrim self.old) → OnOk result (IsBalanced self.new) }
         ensures idle { IsTrim self.old → IsOk result × (self.new ≡ self.old) }
         ensures refused { OnErr result (self.new ≡ self.old) }
     {

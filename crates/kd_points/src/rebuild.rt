@@ -2,9 +2,9 @@ ghost use Rattle.std.specs.Prelude.{◌≡◌, ◌∷◌, ◌≤◌, ◌*◌, �
 ghost use Rattle.std.specs.List.{Contains};
 ghost use Rattle.gx_base.specs.declared.calls.Spot.{Spot};
 ghost use Rattle.slab.specs.Slab.{slab_len};
-ghost use Rattle.kd_points.specs.Trees.{is_found};
-ghost use Rattle.kd_points.specs.TreeStates.{tree_state, dead_nodes, IsSound, SeatsStay};
-ghost use Rattle.kd_points.specs.Rebuilding.{IsPointOf, HaveOwnIds, AreNew, Gathers, IsRebuilt};
+ghost use Rattle.kd_points.specs.Trees.{is_found, seat_depth};
+ghost use Rattle.kd_points.specs.TreeStates.{node_at, tree_state, dead_nodes, IsSound, NoneBare, SeatsStay};
+ghost use Rattle.kd_points.specs.Rebuilding.{IsPointOf, HaveOwnIds, AreNew, Gathers, IsLow, IsRebuilt};
 
 use crate::nodes::{Axis, Seat, order};
 use crate::tree::Tree;
@@ -43,6 +43,8 @@ impl Tree {
         ensures sound { IsSound self.new }
         ensures ok { OnOk result (Gathers self.old self.new spots.old) }
         ensures beside { OnOk result (SeatsStay self.old self.new seat) }
+        ensures bare { OnOk result (NoneBare self.new) }
+        ensures low { OnOk result (IsLow self.old self.new (seat_depth (node_at self.old) seat) (length spots.old)) }
     {
         let count = spots.len();
         if count == 0 {

@@ -1,8 +1,8 @@
-ghost use Rattle.std.specs.Prelude.{◌≡◌, ◌≤◌, ◌<◌, ◌+◌, ◌-◌, ◌^◌, ◌++◌, min, if◌then◌else◌, true, Some, IsSome, IfSome, IfOk, OnOk};
+ghost use Rattle.std.specs.Prelude.{◌≡◌, ◌≤◌, ◌+◌, ◌-◌, ◌^◌, ◌++◌, min, if◌then◌else◌, IfOk, OnOk};
 ghost use Rattle.gx_base.specs.PointKind.{nearer, nearest as nearest_in};
 ghost use Rattle.gx_base.specs.Spots as near;
-ghost use Rattle.kd_points.specs.Searches.{is_other as may_be_nearest, other_of, to_plane, pending_at, sides_of};
-ghost use Rattle.kd_points.specs.Trees as trees;
+ghost use Rattle.kd_points.specs.Searches.{is_other as may_be_nearest, is_past as past, reach_of, takes, other_of, to_plane, pending_at, far_side, sides_of};
+ghost use Rattle.kd_points.specs.Trees.{is_left};
 ghost use Rattle.kd_points.specs.TreeStates.{tree_state, IsSound};
 
 use crate::nodes::{Axis, Node, child, is_left};
@@ -14,6 +14,13 @@ use std::alloc::Global;
 #[derive(Clone, Copy, Drop)]
 pub struct Pending {
     pub from: usize,
+    pub reach: u128,
+}
+
+/// The nearest point so far, and how far away it is.
+#[derive(Clone, Copy, Drop)]
+pub struct Best {
+    pub point: Option<Spot>,
     pub reach: u128,
 }
 
@@ -30,18 +37,38 @@ fn is_other(node: Node, q: Spot) -> bool
     node.live && node.spot.id != q.id
 }
 
-/// The nearer of the node's point and the best so far.
-fn better(node: Node, q: Spot, best: Option<Spot>) -> Option<Spot>
-    ensures { result ≡ nearer q (other_of q node) best }
+/// Whether a spot so far away is nearer than the best so far. The numbers count only where two are equally far.
+fn is_nearer(spot: Spot, reach: u128, q: Spot, best: Best) -> bool
+    requires here { reach ≡ near.distance q spot }
+    requires best { best.reach ≡ reach_of q best.point }
+    ensures { result ≡ takes q spot best.point }
 {
-    if is_other(node, q) {
-        match best {
-            None => Some(node.spot),
-            Some(other) => if beyond(q, node.spot, other) {
-                Some(other)
-            } else {
-                Some(node.spot)
-            },
+    let Some(other) = best.point else {
+        return true;
+    };
+    if reach < best.reach {
+        return true;
+    }
+    if best.reach < reach {
+        return false;
+    }
+    !beyond(q, spot, other)
+}
+
+/// The nearer of the node's point and the best so far.
+fn better(node: Node, q: Spot, best: Best) -> Best
+    requires { best.reach ≡ reach_of q best.point }
+    ensures point { result.point ≡ nearer q (other_of q node) best.point }
+    ensures reach { result.reach ≡ reach_of q result.point }
+{
+    if !is_other(node, q) {
+        return best;
+    }
+    let reach = distance(q, node.spot);
+    if is_nearer(node.spot, reach, q, best) {
+        Best {
+            point: Some(node.spot),
+            reach,
         }
     } else {
         best
@@ -71,13 +98,11 @@ fn reach_of_plane(node: Node, q: Spot) -> u128
 }
 
 /// Whether all that is at least so far away is farther than the best so far.
-fn is_past(reach: u128, q: Spot, best: Option<Spot>) -> bool
-    ensures { result ≡ true → IfSome best (λ n. near.distance q n < reach) × IsSome best }
+fn is_past(reach: u128, q: Spot, best: Best) -> bool
+    requires { best.reach ≡ reach_of q best.point }
+    ensures { result ≡ past q best.point reach }
 {
-    match best {
-        None => false,
-        Some(nearest) => distance(q, nearest) < reach,
-    }
+    reach > best.reach
 }
 
 fn push_side(waiting: &mut Vec<Pending>, side: Option<usize>, reach: u128) -> Result<(), NoMemory>
@@ -89,13 +114,40 @@ fn push_side(waiting: &mut Vec<Pending>, side: Option<usize>, reach: u128) -> Re
     Ok(())
 }
 
-/// Notes both sides of a node, the near one last, so that it is visited first.
-fn push_sides(waiting: &mut Vec<Pending>, node: Node, q: Spot, reach: u128) -> Result<(), NoMemory>
-    ensures sides { OnOk result (waiting.new.items ≡ waiting.old.items ++ sides_of q node reach) }
+/// Notes the far side of a node, unless all there is farther than the best so far.
+fn push_far_side(
+    waiting: &mut Vec<Pending>,
+    node: Node,
+    q: Spot,
+    left: bool,
+    best: Best,
+) -> Result<(), NoMemory>
+    requires best { best.reach ≡ reach_of q best.point }
+    requires side { left ≡ is_left node q }
+    ensures sides { OnOk result (waiting.new.items ≡ waiting.old.items ++ far_side q best.point node) }
+    ensures fits { to_plane q node ≤ near.far }
+{
+    let plane = reach_of_plane(node, q);
+    if is_past(plane, q, best) {
+        return Ok(());
+    }
+    push_side(waiting, child(node, !left), plane)
+}
+
+/// Notes the sides of a node that are to be visited, the near one last, so that it is visited first.
+fn push_sides(
+    waiting: &mut Vec<Pending>,
+    node: Node,
+    q: Spot,
+    reach: u128,
+    best: Best,
+) -> Result<(), NoMemory>
+    requires { best.reach ≡ reach_of q best.point }
+    ensures sides { OnOk result (waiting.new.items ≡ waiting.old.items ++ sides_of q best.point node reach) }
     ensures fits { to_plane q node ≤ near.far }
 {
     let left = is_left(node, q);
-    push_side(waiting, child(node, !left), reach_of_plane(node, q))?;
+    push_far_side(waiting, node, q, left, best)?;
     push_side(waiting, child(node, left), reach)
 }
 
@@ -104,7 +156,10 @@ pub fn nearest(tree: &Tree, alloc: Global, q: Spot) -> Result<Found, NoMemory>
     requires { IsSound tree.now }
     ensures { IfOk result (λ found. found.nearest ≡ nearest_in (tree_state tree.now) q) }
 {
-    let mut best = None;
+    let mut best = Best {
+        point: None,
+        reach: u128::MAX,
+    };
     let mut taken: u64 = 0;
     let mut waiting = Vec::with_capacity(alloc, 32)?;
     push_side(&mut waiting, tree.root(), 0)?;
@@ -112,7 +167,7 @@ pub fn nearest(tree: &Tree, alloc: Global, q: Spot) -> Result<Found, NoMemory>
         let next = match waiting.pop() {
             None => {
                 return Ok(Found {
-                    nearest: best,
+                    nearest: best.point,
                     taken,
                 });
             }
@@ -121,12 +176,12 @@ pub fn nearest(tree: &Tree, alloc: Global, q: Spot) -> Result<Found, NoMemory>
         if is_past(next.reach, q, best) {
             continue;
         }
-        match tree.node(next.from) {
+        match tree.node_with_points(next.from) {
             None => {}
             Some(node) => {
                 taken = with_one_for(taken, node, q);
                 best = better(node, q, best);
-                push_sides(&mut waiting, node, q, next.reach)?;
+                push_sides(&mut waiting, node, q, next.reach, best)?;
             }
         }
     }

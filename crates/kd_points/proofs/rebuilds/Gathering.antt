@@ -17,7 +17,7 @@ use Rattle.kd_points.specs.declared.tree.Tree.{Tree}
 use Rattle.kd_points.specs.NearestPoints.{spot_at-with}
 use Rattle.kd_points.specs.Trees.{Nodes, is_point_of}
 use Rattle.kd_points.specs.TreeStates.{node_at, key_of, place, row_of_node, tree_rows, tree_state, dead_nodes, count_of, IsSound, IsBlank, NoPoint}
-use Rattle.kd_points.specs.Rebuilding.{IsPointOf, HasPoint, Gathers, IsRebuilt}
+use Rattle.kd_points.specs.Rebuilding.{IsPointOf, HasPoint, Gathers, IsRebuilt, IsBalancedTree}
 use Rattle.kd_points.proofs.states.Basics.{none_some, some_is, same_int, int_eq-of}
 use Rattle.kd_points.proofs.states.StateRows.{with_rows, row_found, get-rows_of, rows_of-same}
 
@@ -168,6 +168,7 @@ blank_sound tree b = record {
     numbered = λ i n e. absurd (none_some n (sym (nothing i) ∙ e));
     owned = λ i n e l. absurd (none_some n (sym (nothing i) ∙ e));
     fits = λ i n e. absurd (none_some n (sym (nothing i) ∙ e));
+    passable = λ i n e l. absurd (none_some n (sym (nothing i) ∙ e));
   };
   counted = b.live ∙ sym (ap (λ es. count_of (with_rows (tree_rows (node_at tree) es))) b.entries ∙ map.len-empty row_cmp (List ℤ));
 }
@@ -195,12 +196,13 @@ gathers_parts_ok (Err x) a b c d spots front back middle p f g h = tt
 blank_dead : (tree : Tree) → IsBlank tree → dead_nodes tree ≡ 0
 blank_dead tree b = let e : slab_len tree.nodes ≡ 0 = ap (count_by (is_some {T = Node})) b.slots in omega arith
 
-pub rebuilt_from : (old blank mid new : Tree) (spots given : List Spot) → IsBlank blank → ((r : Spot) → Contains given r ↔ IsPointOf old r) → spots ≡ given → IsSound mid → Gathers blank mid spots → new ≡ record mid { grown = 0 } → IsRebuilt old new
-rebuilt_from old blank mid new spots given b p e s g f = subst (IsRebuilt old) (sym f) (record {
+pub rebuilt_from : (old blank mid new : Tree) (spots given : List Spot) → IsBlank blank → ((r : Spot) → Contains given r ↔ IsPointOf old r) → spots ≡ given → IsSound mid → Gathers blank mid spots → IsBalancedTree mid → new ≡ record mid { grown = 0 } → IsRebuilt old new
+rebuilt_from old blank mid new spots given b p e s g l f = subst (IsRebuilt old) (sym f) (record {
   sound = record { placed = s.placed; counted = s.counted };
   state = rebuilt_state old blank mid spots b (λ r h. (p r).0 (subst (λ xs. Contains xs r) e h)) (λ r h. subst (λ xs. Contains xs r) (sym e) ((p r).1 h)) g;
   none_dead = let d : dead_nodes mid ≤ dead_nodes blank = g.dead in let z : dead_nodes blank ≡ 0 = blank_dead blank b in omega arith;
   none_grown = refl;
+  balanced = l;
 })
 
 pub blank_state : (tree : Tree) → IsBlank tree → tree_state tree ≡ with_rows map.empty

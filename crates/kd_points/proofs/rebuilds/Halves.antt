@@ -1,5 +1,5 @@
 -- Spots that are halved around one of them: the ids stay apart, and each half belongs on its own side.
-use Rattle.std.specs.Prelude.{◌≡◌, ℕ, zero, ◌<◌, ℤ, Bool, true, false, ◌||◌, Option, Some, None, List, [], ◌∷◌, ◌++◌, Result, Ok, Err, OnOk, refl, ◌⊎◌}
+use Rattle.std.specs.Prelude.{◌≡◌, ℕ, zero, ◌<◌, ℤ, Bool, true, false, ◌||◌, Option, Some, None, List, [], ◌∷◌, ◌++◌, is_some, slice_index_or, Result, Ok, Err, OnOk, refl, ◌⊎◌}
 use Rattle.std.proofs.Common.{sym, ◌∙◌, ap, subst, arith, inl, inr}
 use Rattle.std.specs.declared.cmp.Ordering.{Ordering}
 use Rattle.std.specs.declared.cmp.Ordering.TheVariants.{Less, Equal, Greater}
@@ -13,17 +13,20 @@ use Rattle.std.specs.List.Sorted.{IsPermutation, IsSplitAroundBy}
 use Rattle.std.proofs.lemmas.List.Sorted.{Contains-permutation, IsPermutation-sym, IsPermutation-middle, IsPermutation-trans}
 use Rattle.std.proofs.lemmas.List.Elements.{Contains-append_left, Contains-append_right}
 use Rattle.std.proofs.lemmas.Map.Keys.{IsDistinct-head, IsDistinct-tail, IsDistinct-push, IsDistinct-IsPermutation}
+use Rattle.slab.specs.Slab.{slab_len}
 use Rattle.slab.proofs.SlabLemmas.{Contains-cons, Contains-cons_cases}
 use Rattle.gx_base.specs.declared.calls.Spot.{Spot}
 use Rattle.gx_base.specs.PointKind.{spot_of, spot_at}
 use Rattle.gx_base.proofs.CallerLemmas.{both_equal}
 use Rattle.kd_points.specs.declared.nodes.Axis.{Axis}
+use Rattle.kd_points.specs.declared.nodes.Node.{Node}
 use Rattle.kd_points.specs.declared.nodes.Seat.{Seat}
 use Rattle.kd_points.specs.declared.nodes.Seat.TheVariants.{Found, Free, Empty}
 use Rattle.kd_points.specs.declared.tree.Tree.{Tree}
-use Rattle.kd_points.specs.Trees.{coordinate, level_cmp, spot_cmp, IsSeat}
-use Rattle.kd_points.specs.TreeStates.{node_at, tree_state, NoPoint, SeatsStay, IsBelow, IsBlank}
+use Rattle.kd_points.specs.Trees.{coordinate, level_cmp, spot_cmp, is_bare, IsSeat}
+use Rattle.kd_points.specs.TreeStates.{node_at, tree_state, NoPoint, NoneBare, IsClear, IsSound, key_of, SeatsStay, IsBelow, IsBlank}
 use Rattle.kd_points.specs.Rebuilding.{IsPointOf, HaveOwnIds, AreNew, Gathers}
+use Rattle.kd_points.proofs.trees.Openings.{on_way_there}
 use Rattle.kd_points.proofs.states.Basics.{int_eq-of, int_eq-comm, none_some, not_both}
 use Rattle.kd_points.proofs.rebuilds.Gathering.{no_spot, spot_id, contains_one, blank_row}
 
@@ -181,12 +184,14 @@ module _ (old : Tree) (spots front back : List Spot) (middle : Spot) (seat : Sea
     pub front_new : AreNew mid front (Free key true)
     front_new = record {
       own = own_left front back ends;
+      bare = b.none_bare new.bare;
       free = λ r k. still_free old mid (middle ∷ []) r.id first (new.free r (front_in r k)) (not_one r (front_apart r k));
       seated = λ r k. subst (λ side. IsSeat (node_at mid) mid.root r (Free key side)) (front_left r k) (b.below r (new.seated r (front_in r k)));
     }
 
-    pub back_new : (next : Tree) → Gathers mid next front → SeatsStay mid next (Free key true) → AreNew next back (Free key false)
-    back_new next g stay = record {
+    pub back_new : (next : Tree) → Gathers mid next front → SeatsStay mid next (Free key true) → NoneBare next → AreNew next back (Free key false)
+    back_new next g stay bare = record {
+      bare = bare;
       own = own_right front back ends;
       free = λ r k. still_free mid next front r.id g (still_free old mid (middle ∷ []) r.id first (new.free r (back_in r k)) (not_one r (back_apart r k))) (λ s m. apart_parts front back ends s r m k);
       seated = λ r k. stay r key false (subst (λ side. IsSeat (node_at mid) mid.root r (Free key side)) (back_right r k) (b.below r (new.seated r (back_in r k)))) other_side;
@@ -205,10 +210,19 @@ pub all_beside_ok : {T E : Type 0} (result : Result T E) (old mid next end : Tre
 all_beside_ok (Ok x) old mid next end seat middle axis key b f g = all_beside old mid next end seat middle axis key b f g
 all_beside_ok (Err x) old mid next end seat middle axis key b f g = tt
 
+-- where no node is bare, each way is clear
+pub none_clear : (tree : Tree) (r : Spot) → IsSound tree → NoneBare tree → IsClear tree r
+none_clear tree r s b k j e = by_node (node_at tree j) refl (on_way_there (node_at tree) tree.root (slab_len tree.nodes) (key_of tree) s.placed r k j e)
+  where
+    by_node : (o : Option Node) → node_at tree j ≡ o → is_some (node_at tree j) ≡ true → is_bare (node_at tree j) ≡ false
+    by_node None g t = absurd (let f : false ≡ true = sym (ap is_some g) ∙ t in cc)
+    by_node (Some n) g t = ap is_bare g ∙ b j n g
+
 -- the spots of a tree without nodes belong at its root
 pub blank_new : (tree : Tree) (spots given : List Spot) → IsBlank tree → HaveOwnIds given → spots ≡ given → AreNew tree spots Empty
 blank_new tree spots given b own e = record {
   own = subst HaveOwnIds (sym e) own;
   free = λ r k. blank_row tree r.id b;
+  bare = λ j n e. absurd (none_some n (sym (ap (λ slots. slice_index_or slots j None) b.slots) ∙ e));
   seated = λ r k. b.root;
 }

@@ -76,3 +76,21 @@ pub by_distance : (q n r : Spot) → distance q n < distance q r → beyond q n 
 unfolding pk
 by_distance q n r h =
     less_by (nat_lt (distance q n) (distance q r)) (distance q n == distance q r) (ordering_then (int_cmp (int_min q.id n.id) (int_min q.id r.id)) (int_cmp (int_max q.id n.id) (int_max q.id r.id))) (less_of (distance q n) (distance q r) h)
+
+more_by : (b c : Bool) (o : Ordering) → b ≡ false → c ≡ false → is_gt (ordering_then (cond b Less (cond c Equal Greater)) o) ≡ true
+more_by true c o e f = absurd (cc)
+more_by false true o e f = absurd (cc)
+more_by false false o e f = refl
+
+not_less_of : (a b : ℕ) → a < b → nat_lt b a ≡ false
+not_less_of a b h = grind arith
+
+not_same_of : (a b : ℕ) → a < b → (b == a) ≡ false
+not_same_of a b h = grind arith
+
+-- and what is farther is beyond it
+pub by_farther : (q n r : Spot) → distance q n < distance q r → beyond q r n ≡ true
+unfolding pk
+by_farther q n r h =
+    more_by (nat_lt (distance q r) (distance q n)) (distance q r == distance q n) (ordering_then (int_cmp (int_min q.id r.id) (int_min q.id n.id)) (int_cmp (int_max q.id r.id) (int_max q.id n.id)))
+    (not_less_of (distance q n) (distance q r) h) (not_same_of (distance q n) (distance q r) h)

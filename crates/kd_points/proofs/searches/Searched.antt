@@ -4,14 +4,14 @@ use Rattle.std.specs.Ordering.{int_eq}
 use Rattle.gx_base.specs.declared.calls.Spot.{Spot}
 use Rattle.gx_base.specs.Spots.{beyond, distance}
 use Rattle.kd_points.specs.declared.search.Pending.{Pending}
-use Rattle.kd_points.specs.Trees.{Nodes, child_of}
+use Rattle.kd_points.specs.Trees.{Nodes, child_of, is_bare}
 use Rattle.kd_points.proofs.trees.LiveNodes.{IsNodeOf, IsLive}
 
--- after so many steps the spot's way from here comes to its live node
+-- after so many steps the spot's way from here comes to its live node, past none that is bare
 abbrev pub Leads : Nodes → Spot → ℕ → Option ℕ → Type 0
 Leads look r k None = ⊥
-Leads look r zero (Some i) = IsNodeOf (look i) r
-Leads look r (suc k) (Some i) = Leads look r k (child_of (look i) r)
+Leads look r zero (Some i) = IsNodeOf (look i) r × (is_bare (look i) ≡ false)
+Leads look r (suc k) (Some i) = Leads look r k (child_of (look i) r) × (is_bare (look i) ≡ false)
 
 -- this one is no farther from q than r
 abbrev pub Within : Spot → Option Spot → Spot → Type 0

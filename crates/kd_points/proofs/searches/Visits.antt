@@ -1,5 +1,5 @@
 -- What a search knows after each step.
-use Rattle.std.specs.Prelude.{◌≡◌, ℕ, zero, suc, ◌<◌, ◌≤◌, ℤ, Bool, true, false, not, ◌&&◌, if◌then◌else◌, Option, Some, None, List, [], ◌∷◌, ◌++◌, IfSome, IsSome, refl, ◌⊎◌}
+use Rattle.std.specs.Prelude.{◌≡◌, ℕ, zero, suc, ◌≤◌, ℤ, Bool, true, false, not, ◌&&◌, if◌then◌else◌, Option, Some, None, List, [], ◌∷◌, ◌++◌, refl, ◌⊎◌}
 use Rattle.std.proofs.Common.{sym, ◌∙◌, ap, subst, arith, inl, inr}
 use Rattle.std.specs.Ordering.{int_eq}
 use Rattle.gx_base.specs.declared.calls.Spot.{Spot}
@@ -9,12 +9,14 @@ use Rattle.kind_tables.proofs.CallerLemmas.{both, not_true}
 use Rattle.kd_points.specs.declared.nodes.Node.{Node}
 use Rattle.kd_points.specs.declared.search.Pending.{Pending}
 use Rattle.kd_points.specs.NearestPoints.{beyond-upto, beyond-back, beyond-itself}
-use Rattle.kd_points.specs.Trees.{Nodes, is_left, child, child_of, way, IsTree}
+use Rattle.kd_points.specs.Trees.{Nodes, is_left, child, child_of, way, is_bare, IsTree, IsOpenTo}
 use Rattle.kd_points.proofs.trees.LiveNodes.{IsNodeOf, IsLive}
-use Rattle.kd_points.specs.Searches.{other_of, to_plane, pending_at, sides_of}
+use Rattle.kd_points.specs.Searches.{other_of, to_plane, pending_at, is_past, far_side, sides_of}
 use Rattle.kd_points.proofs.searches.Searched.{Leads, Within, IsLiveOther, IsAwaited, IsAwaitedIn, IsSearched}
-use Rattle.kd_points.proofs.states.Basics.{none_some, some_is}
-use Rattle.kd_points.proofs.searches.Pruning.{plane_before, by_distance}
+use Rattle.kd_points.proofs.states.Basics.{none_some, some_is, not_both}
+use Rattle.kd_points.proofs.trees.Openings.{moved}
+use Rattle.kd_points.proofs.searches.Pruning.{plane_before}
+use Rattle.kd_points.proofs.searches.Takings.{past_within}
 
 -- the nearer of two points
 kept_if : (q c m r : Spot) (b : Bool) → beyond q c m ≡ b → beyond q m r ≡ false → Within q (Some (if b then m else c)) r
@@ -63,16 +65,17 @@ abbrev pub Under : Nodes → Option ℕ → Spot → Type 0
 Under look from r = (k : ℕ) × Leads look r k from
 
 here_or_under : (look : Nodes) (i : ℕ) (n : Node) (r : Spot) → look i ≡ Some n → Under look (Some i) r → (IsNodeOf (Some n) r) ⊎ (Under look (child n (is_left n r)) r)
-here_or_under look i n r g (zero, l) = inl (subst (λ o. IsNodeOf o r) g l)
-here_or_under look i n r g (suc k, l) = inr (k, subst (λ o. Leads look r k (child_of o r)) g l)
+here_or_under look i n r g (zero, l) = inl (subst (λ o. IsNodeOf o r) g l.0)
+here_or_under look i n r g (suc k, l) = inr (k, subst (λ o. Leads look r k (child_of o r)) g l.0)
 
 nowhere : (look : Nodes) (r : Spot) (k : ℕ) → Leads look r k None → ⊥
 nowhere look r zero l = l
 nowhere look r (suc k) l = l
 
-absent : (look : Nodes) (i : ℕ) (r : Spot) → look i ≡ None → Under look (Some i) r → ⊥
-absent look i r g (zero, l) = subst (λ o. IsNodeOf o r) g l
-absent look i r g (suc k, l) = nowhere look r k (subst (λ o. Leads look r k (child_of o r)) g l)
+-- nothing is awaited under a bare node
+absent : (look : Nodes) (i : ℕ) (r : Spot) → is_bare (look i) ≡ true → Under look (Some i) r → ⊥
+absent look i r g (zero, l) = not_both (is_bare (look i)) g l.1
+absent look i r g (suc k, l) = not_both (is_bare (look i)) g l.1
 
 same_or_not : (a b : Bool) → (a ≡ b) ⊎ (a ≡ not b)
 same_or_not true true = inl refl
@@ -113,19 +116,19 @@ module _ (look : Nodes) (q : Spot) where
       at_last (inr (inr h)) = absurd h
 
   -- a part whose points are all farther than the best is left out
-  pub skipped : (best : Option Spot) (rest : List Pending) (next : Pending) (n : Spot) → best ≡ Some n → distance q n < next.reach → IsSearched look q best (rest ++ next ∷ []) → IsSearched look q best rest
-  skipped best rest next n e h s = record { covered = λ r l. by_cover r (s.covered r l); source = s.source }
+  pub skipped : (best : Option Spot) (rest : List Pending) (next : Pending) → is_past q best next.reach ≡ true → IsSearched look q best (rest ++ next ∷ []) → IsSearched look q best rest
+  skipped best rest next e s = record { covered = λ r l. by_cover r (s.covered r l); source = s.source }
     where
       by_last : (r : Spot) → IsAwaitedIn look q rest r ⊎ IsAwaited look q next r → Within q best r ⊎ IsAwaitedIn look q rest r
       by_last r (inl a) = inr a
-      by_last r (inr a) = let reached : next.reach ≤ distance q r = a.1 in inl (subst (λ o. Within q o r) (sym e) (by_distance q n r (omega arith)))
+      by_last r (inr a) = inl (past_within q best next.reach r e a.1)
 
       by_cover : (r : Spot) → Within q best r ⊎ IsAwaitedIn look q (rest ++ next ∷ []) r → Within q best r ⊎ IsAwaitedIn look q rest r
       by_cover r (inl w) = inl w
       by_cover r (inr a) = by_last r (last rest next r a)
 
-  -- where no node is there is nothing to visit
-  pub passed : (best : Option Spot) (rest : List Pending) (next : Pending) → look next.from ≡ None → IsSearched look q best (rest ++ next ∷ []) → IsSearched look q best rest
+  -- under a bare node there is nothing to visit
+  pub passed : (best : Option Spot) (rest : List Pending) (next : Pending) → is_bare (look next.from) ≡ true → IsSearched look q best (rest ++ next ∷ []) → IsSearched look q best rest
   passed best rest next g s = record { covered = λ r l. by_cover r (s.covered r l); source = s.source }
     where
       by_last : (r : Spot) → IsAwaitedIn look q rest r ⊎ IsAwaited look q next r → Within q best r ⊎ IsAwaitedIn look q rest r
@@ -141,27 +144,39 @@ module _ (look : Nodes) (q : Spot) where
     abbrev best_now : Option Spot
     best_now = nearer q (other_of q n) best
 
-    on_side : (r : Spot) → next.reach ≤ distance q r → Under look (child n (is_left n r)) r → IsAwaitedIn look q (rest ++ sides_of q n next.reach) r
+    abbrev sides : List Pending
+    sides = sides_of q best_now n next.reach
+
+    abbrev IsLeft : Spot → Type 0
+    IsLeft r = Within q best_now r ⊎ IsAwaitedIn look q (rest ++ sides) r
+
+    at_far : (r : Spot) → Under look (child n (not (is_left n q))) r → to_plane q n ≤ distance q r → IsLeft r
+    at_far r u h = by_past (is_past q best_now (to_plane q n)) refl
+      where
+        by_past : (b : Bool) → is_past q best_now (to_plane q n) ≡ b → IsLeft r
+        by_past true e = inl (past_within q best_now (to_plane q n) r e h)
+        by_past false e =
+            inr (in_back rest sides r (in_front (far_side q best_now n) (pending_at (child n (is_left n q)) next.reach) r
+            (subst (λ b. IsAwaitedIn look q (if b then [] else pending_at (child n (not (is_left n q))) (to_plane q n)) r) (sym e) (awaited_at (child n (not (is_left n q))) (to_plane q n) r u h))))
+
+    on_side : (r : Spot) → next.reach ≤ distance q r → Under look (child n (is_left n r)) r → IsLeft r
     on_side r h u = by_side (same_or_not (is_left n r) (is_left n q))
       where
-        by_side : (is_left n r ≡ is_left n q) ⊎ (is_left n r ≡ not (is_left n q)) → IsAwaitedIn look q (rest ++ sides_of q n next.reach) r
+        by_side : (is_left n r ≡ is_left n q) ⊎ (is_left n r ≡ not (is_left n q)) → IsLeft r
         by_side (inl e) =
-            in_back rest (sides_of q n next.reach) r (in_back (pending_at (child n (not (is_left n q))) (to_plane q n)) (pending_at (child n (is_left n q)) next.reach) r
-            (awaited_at (child n (is_left n q)) next.reach r (subst (λ b. Under look (child n b) r) e u) h))
-        by_side (inr e) =
-            in_back rest (sides_of q n next.reach) r (in_front (pending_at (child n (not (is_left n q))) (to_plane q n)) (pending_at (child n (is_left n q)) next.reach) r
-            (awaited_at (child n (not (is_left n q))) (to_plane q n) r (subst (λ b. Under look (child n b) r) e u) (plane_before n q r e fits)))
+            inr (in_back rest sides r (in_back (far_side q best_now n) (pending_at (child n (is_left n q)) next.reach) r
+            (awaited_at (child n (is_left n q)) next.reach r (subst (λ b. Under look (child n b) r) e u) h)))
+        by_side (inr e) = at_far r (subst (λ b. Under look (child n b) r) e u) (plane_before n q r e fits)
 
-    at_node : (r : Spot) → int_eq r.id q.id ≡ false → next.reach ≤ distance q r → (IsNodeOf (Some n) r) ⊎ (Under look (child n (is_left n r)) r)
-        → Within q best_now r ⊎ IsAwaitedIn look q (rest ++ sides_of q n next.reach) r
+    at_node : (r : Spot) → int_eq r.id q.id ≡ false → next.reach ≤ distance q r → (IsNodeOf (Some n) r) ⊎ (Under look (child n (is_left n r)) r) → IsLeft r
     at_node r d h (inl i) = inl (subst (λ o. Within q (nearer q o best) r) (sym (is_other q n r i.0 i.1 d)) (nearer_new q r best))
-    at_node r d h (inr u) = inr (on_side r h u)
+    at_node r d h (inr u) = on_side r h u
 
-    by_last : (r : Spot) → int_eq r.id q.id ≡ false → IsAwaitedIn look q rest r ⊎ IsAwaited look q next r → Within q best_now r ⊎ IsAwaitedIn look q (rest ++ sides_of q n next.reach) r
-    by_last r d (inl a) = inr (in_front rest (sides_of q n next.reach) r a)
+    by_last : (r : Spot) → int_eq r.id q.id ≡ false → IsAwaitedIn look q rest r ⊎ IsAwaited look q next r → IsLeft r
+    by_last r d (inl a) = inr (in_front rest sides r a)
     by_last r d (inr a) = at_node r d a.1 (here_or_under look next.from n r g a.0)
 
-    by_cover : (r : Spot) → int_eq r.id q.id ≡ false → Within q best r ⊎ IsAwaitedIn look q (rest ++ next ∷ []) r → Within q best_now r ⊎ IsAwaitedIn look q (rest ++ sides_of q n next.reach) r
+    by_cover : (r : Spot) → int_eq r.id q.id ≡ false → Within q best r ⊎ IsAwaitedIn look q (rest ++ next ∷ []) r → IsLeft r
     by_cover r d (inl w) = inl (nearer_kept q (other_of q n) best r w)
     by_cover r d (inr a) = by_last r d (last rest next r a)
 
@@ -169,43 +184,40 @@ module _ (look : Nodes) (q : Spot) where
     by_source s m (inl e) = s m e
     by_source s m (inr e) = other_is look q next.from n m g e
 
-    pub visited : IsSearched look q best (rest ++ next ∷ []) → IsSearched look q best_now (rest ++ sides_of q n next.reach)
+    pub visited : IsSearched look q best (rest ++ next ∷ []) → IsSearched look q best_now (rest ++ sides)
     visited s = record {
       covered = λ r l. by_cover r l.1 (s.covered r l);
       source = λ m e. by_source s.source m (nearer_source q (other_of q n) best m e);
     }
 
 -- each live node is under the root
-way_leads : (look : Nodes) (r : Spot) (k : ℕ) (from : Option ℕ) (j : ℕ) → way look r k from ≡ Some j → IsNodeOf (look j) r → Leads look r k from
-way_leads look r zero from j e h = subst (Leads look r zero) (sym e) h
-way_leads look r (suc k) None j e h = absurd (none_some j e)
-way_leads look r (suc k) (Some i) j e h = way_leads look r k (child_of (look i) r) j e h
+way_leads : (look : Nodes) (r : Spot) (k : ℕ) (from : Option ℕ) (j : ℕ) → way look r k from ≡ Some j → IsNodeOf (look j) r → IsOpenTo look from r k → Leads look r k from
+way_leads look r zero None j e h o = absurd (none_some j e)
+way_leads look r zero (Some i) j e h o = (subst (λ x. IsNodeOf (look x) r) (sym (some_is i j e)) h, o 0 i (omega arith) refl)
+way_leads look r (suc k) None j e h o = absurd (none_some j e)
+way_leads look r (suc k) (Some i) j e h o = (way_leads look r k (child_of (look i) r) j e h (λ d x l w. o (suc d) x (omega arith) w), o 0 i (omega arith) refl)
 
-node_of : (o : Option Node) (r : Spot) → IsNodeOf o r → (n : Node) × (o ≡ Some n) × (n.spot ≡ r)
+node_of : (o : Option Node) (r : Spot) → IsNodeOf o r → (n : Node) × (o ≡ Some n) × (n.spot ≡ r) × (n.live ≡ true)
 node_of None r h = absurd h
-node_of (Some n) r h = (n, refl, h.1)
+node_of (Some n) r h = (n, refl, h.1, h.0)
 
 pub begun : (look : Nodes) (root : Option ℕ) (size : ℕ) (numbers : ℤ → Option ℕ) (q : Spot) → IsTree look root size numbers → IsSearched look q None (pending_at root 0)
 begun look root size numbers q t = record { covered = λ r l. inr (at_root r l.0); source = λ m e. absurd (none_some m e) }
   where
     at_root : (r : Spot) → IsLive look r → IsAwaitedIn look q (pending_at root 0) r
     at_root r l =
-        let n : (n : Node) × (look l.0 ≡ Some n) × (n.spot ≡ r) = node_of (look l.0) r l.1 in
-        awaited_at look q root 0 r (n.0.depth, way_leads look r n.0.depth root l.0 (ap (λ (s : Spot). way look s n.0.depth root) (sym n.2) ∙ t.placed l.0 n.0 n.1) l.1) (omega arith)
+        let n : (n : Node) × (look l.0 ≡ Some n) × (n.spot ≡ r) × (n.live ≡ true) = node_of (look l.0) r l.1 in
+        awaited_at look q root 0 r (n.0.depth, way_leads look r n.0.depth root l.0 (ap (λ (s : Spot). way look s n.0.depth root) (sym n.2) ∙ t.placed l.0 n.0 n.1) l.1 (moved look root n.0.spot r n.0.depth n.0.depth (sym n.2) refl (t.passable l.0 n.0 n.1 n.3))) (omega arith)
 
 -- the same, from what the code computes
 module _ (look : Nodes) (q : Spot) (best : Option Spot) (waiting rest : List Pending) (next : Pending) (e : waiting ≡ rest ++ next ∷ []) where
-  pub skipped_from : IfSome best (λ n. distance q n < next.reach) × IsSome best → IsSearched look q best waiting → IsSearched look q best rest
-  skipped_from p s = by_best best refl p (subst (IsSearched look q best) e s)
-    where
-      by_best : (o : Option Spot) → best ≡ o → IfSome o (λ n. distance q n < next.reach) × IsSome o → IsSearched look q best (rest ++ next ∷ []) → IsSearched look q best rest
-      by_best None g p s = absurd (let e : false ≡ true = p.1 in cc)
-      by_best (Some n) g p s = skipped look q best rest next n g p.0 s
+  pub skipped_from : (past : Bool) → past ≡ is_past q best next.reach → past ≡ true → IsSearched look q best waiting → IsSearched look q best rest
+  skipped_from past f g s = skipped look q best rest next (sym f ∙ g) (subst (IsSearched look q best) e s)
 
-  pub passed_from : (node : Option Node) → node ≡ look next.from → node ≡ None → IsSearched look q best waiting → IsSearched look q best rest
-  passed_from held f g s = passed look q best rest next (sym f ∙ g) (subst (IsSearched look q best) e s)
+  pub passed_from : is_bare (look next.from) ≡ true → IsSearched look q best waiting → IsSearched look q best rest
+  passed_from g s = passed look q best rest next g (subst (IsSearched look q best) e s)
 
-  pub visited_from : (node : Option Node) (n : Node) (better : Option Spot) (after : List Pending) → node ≡ look next.from → node ≡ Some n → to_plane q n ≤ far → better ≡ nearer q (other_of q n) best → after ≡ rest ++ sides_of q n next.reach
+  pub visited_from : (n : Node) (better : Option Spot) (after : List Pending) → look next.from ≡ Some n → to_plane q n ≤ far → better ≡ nearer q (other_of q n) best → after ≡ rest ++ sides_of q better n next.reach
       → IsSearched look q best waiting → IsSearched look q better after
-  visited_from held n better after f g h b a s =
-      subst (IsSearched look q better) (sym a) (subst (λ o. IsSearched look q o (rest ++ sides_of q n next.reach)) (sym b) (visited look q best rest next n (sym f ∙ g) h (subst (IsSearched look q best) e s)))
+  visited_from n better after g h b a s =
+      subst (IsSearched look q better) (sym a) (subst (λ o. IsSearched look q o (rest ++ sides_of q o n next.reach)) (sym b) (visited look q best rest next n g h (subst (IsSearched look q best) e s)))

@@ -1,11 +1,11 @@
 -- How much a search has still to do: each step leaves less.
-use Rattle.std.specs.Prelude.{◌≡◌, ℕ, zero, suc, ◌<◌, ◌≤◌, ◌+◌, ◌-◌, ℤ, not, Option, Some, None, List, [], ◌∷◌, ◌++◌, refl}
+use Rattle.std.specs.Prelude.{◌≡◌, ℕ, zero, suc, ◌<◌, ◌≤◌, ◌+◌, ◌-◌, ℤ, Bool, true, false, not, if◌then◌else◌, Option, Some, None, List, [], ◌∷◌, ◌++◌, refl}
 use Rattle.std.proofs.Common.{sym, ◌∙◌, ap, subst, arith}
 use Rattle.gx_base.specs.declared.calls.Spot.{Spot}
 use Rattle.kd_points.specs.declared.nodes.Node.{Node}
 use Rattle.kd_points.specs.declared.search.Pending.{Pending}
 use Rattle.kd_points.specs.Trees.{Nodes, is_left, child, depth_of, IsTree}
-use Rattle.kd_points.specs.Searches.{to_plane, pending_at, sides_of}
+use Rattle.kd_points.specs.Searches.{to_plane, pending_at, is_past, far_side, sides_of}
 use Rattle.kd_points.proofs.states.Basics.{none_some, some_is}
 use Rattle.kd_points.proofs.trees.Seats.{depth_or_zero}
 
@@ -44,16 +44,21 @@ side_work look size d (Some c) reach h = let e : weight (size - depth_or_zero (l
 height_by : (size d h : ℕ) → d < size → h ≡ size - suc d → size - d ≡ suc h
 height_by size d h b e = omega arith
 
--- both sides of a node are less than the node
-pub sides_less : (look : Nodes) (root : Option ℕ) (size : ℕ) (numbers : ℤ → Option ℕ) (q : Spot) (rest : List Pending) (next : Pending) (n : Node) → IsTree look root size numbers → look next.from ≡ Some n
-    → work look size (rest ++ sides_of q n next.reach) < work look size (rest ++ next ∷ [])
-sides_less look root size numbers q rest next n t g =
+no_more : (look : Nodes) (size most : ℕ) (b : Bool) (xs : List Pending) → work look size xs ≤ most → work look size (if b then [] else xs) ≤ most
+no_more look size most true xs h = omega arith
+no_more look size most false xs h = h
+
+-- the sides of a node are less than the node
+pub sides_less : (look : Nodes) (root : Option ℕ) (size : ℕ) (numbers : ℤ → Option ℕ) (q : Spot) (best : Option Spot) (rest : List Pending) (next : Pending) (n : Node) → IsTree look root size numbers → look next.from ≡ Some n
+    → work look size (rest ++ sides_of q best n next.reach) < work look size (rest ++ next ∷ [])
+sides_less look root size numbers q best rest next n t g =
     let a : work look size (rest ++ next ∷ []) ≡ work look size rest + work look size (next ∷ []) = work-append look size rest (next ∷ []) in
-    let b : work look size (rest ++ sides_of q n next.reach) ≡ work look size rest + work look size (sides_of q n next.reach) = work-append look size rest (sides_of q n next.reach) in
-    let s : work look size (sides_of q n next.reach) ≡ work look size (pending_at (child n (not (is_left n q))) (to_plane q n)) + work look size (pending_at (child n (is_left n q)) next.reach) =
-    work-append look size (pending_at (child n (not (is_left n q))) (to_plane q n)) (pending_at (child n (is_left n q)) next.reach) in
-    let l : work look size (pending_at (child n (not (is_left n q))) (to_plane q n)) ≤ weight (size - suc n.depth) =
-    side_work look size (suc n.depth) (child n (not (is_left n q))) (to_plane q n) (λ c e. t.nested next.from c n (not (is_left n q)) g e) in
+    let b : work look size (rest ++ sides_of q best n next.reach) ≡ work look size rest + work look size (sides_of q best n next.reach) = work-append look size rest (sides_of q best n next.reach) in
+    let s : work look size (sides_of q best n next.reach) ≡ work look size (far_side q best n) + work look size (pending_at (child n (is_left n q)) next.reach) =
+    work-append look size (far_side q best n) (pending_at (child n (is_left n q)) next.reach) in
+    let l : work look size (far_side q best n) ≤ weight (size - suc n.depth) =
+    no_more look size (weight (size - suc n.depth)) (is_past q best (to_plane q n)) (pending_at (child n (not (is_left n q))) (to_plane q n))
+    (side_work look size (suc n.depth) (child n (not (is_left n q))) (to_plane q n) (λ c e. t.nested next.from c n (not (is_left n q)) g e)) in
     let r : work look size (pending_at (child n (is_left n q)) next.reach) ≤ weight (size - suc n.depth) = side_work look size (suc n.depth) (child n (is_left n q)) next.reach (λ c e. t.nested next.from c n (is_left n q) g e) in
     let d : depth_or_zero (look next.from) ≡ n.depth = ap depth_or_zero g in
     let w : weight (size - depth_or_zero (look next.from)) ≡ weight (size - suc n.depth) + weight (size - suc n.depth) + 1 =
@@ -64,7 +69,7 @@ sides_less look root size numbers q rest next n t g =
 pub less_from : (look : Nodes) (size : ℕ) (waiting rest : List Pending) (next : Pending) → waiting ≡ rest ++ next ∷ [] → work look size rest < work look size waiting
 less_from look size waiting rest next e = subst (λ w. work look size rest < work look size w) (sym e) (less_left look size rest next)
 
-pub sides_from : (look : Nodes) (root : Option ℕ) (size : ℕ) (numbers : ℤ → Option ℕ) (q : Spot) (waiting rest after : List Pending) (next : Pending) (node : Option Node) (n : Node) → IsTree look root size numbers
-    → waiting ≡ rest ++ next ∷ [] → node ≡ look next.from → node ≡ Some n → after ≡ rest ++ sides_of q n next.reach → work look size after < work look size waiting
-sides_from look root size numbers q waiting rest after next held n t e f g a =
-    subst (λ w. work look size after < work look size w) (sym e) (subst (λ w. work look size w < work look size (rest ++ next ∷ [])) (sym a) (sides_less look root size numbers q rest next n t (sym f ∙ g)))
+pub sides_from : (look : Nodes) (root : Option ℕ) (size : ℕ) (numbers : ℤ → Option ℕ) (q : Spot) (best : Option Spot) (waiting rest after : List Pending) (next : Pending) (n : Node) → IsTree look root size numbers
+    → waiting ≡ rest ++ next ∷ [] → look next.from ≡ Some n → after ≡ rest ++ sides_of q best n next.reach → work look size after < work look size waiting
+sides_from look root size numbers q best waiting rest after next n t e g a =
+    subst (λ w. work look size after < work look size w) (sym e) (subst (λ w. work look size w < work look size (rest ++ next ∷ [])) (sym a) (sides_less look root size numbers q best rest next n t g))

@@ -7,14 +7,14 @@ use Rattle.gx_base.specs.States.{with_row}
 use Rattle.slab.specs.Slab.{slab_len, Updates}
 use Rattle.kd_points.specs.declared.nodes.Node.{Node}
 use Rattle.kd_points.specs.declared.tree.Tree.{Tree}
-use Rattle.kd_points.specs.Trees.{IsTree, IsOwner}
-use Rattle.kd_points.specs.TreeStates.{node_at, key_of, place, row_of_node, tree_state, count_of, IsSound, NoPoint, KeepsNodes}
+use Rattle.kd_points.specs.Trees.{way, IsTree, IsOwner}
+use Rattle.kd_points.specs.TreeStates.{node_at, key_of, place, row_of_node, tree_state, count_of, IsSound, NoPoint, IsClear, KeepsNodes}
 use Rattle.kd_points.proofs.states.Basics.{same_key, same_int, int_eq-of, int_eq-itself, int_eq-comm, false_of, not_both, none_some, some_is}
 use Rattle.kd_points.proofs.states.StateRows.{with_rows, row_found, Settles, rows_of-with, row_of_live, row_of_dead, row_of_another, owner_row, get-rows_of}
 use Rattle.kd_points.proofs.states.Counts.{count-more, count-less, count-some}
 use Rattle.kd_points.proofs.trees.Ways.{Amends, AllStay, there_still}
 use Rattle.kd_points.proofs.trees.Holders.{Holds, holds-at, holds-where}
-use Rattle.kd_points.proofs.trees.Marks.{marked_stays, WasThere, was_there, marked_tree}
+use Rattle.kd_points.proofs.trees.Marks.{marked_stays, WasThere, was_there, marked_tree, marked_open}
 
 -- the tree has another row for one id, and each node has stayed
 pub record Changed (old new : Tree) (id : ℤ) (row : Option (List ℤ)) : Type 0 where
@@ -41,8 +41,8 @@ module _ (old new : Tree) (id : ℤ) (key : ℕ) (s : IsSound old) (o : IsOwner 
   still_owned : (j : ℕ) (m : Node) → node_at new j ≡ Some m → m.live ≡ true → key_of new m.spot.id ≡ Some j
   still_owned j m g l = by_mark w.live
     where
-      w : WasThere (node_at old) (node_at new) key o.node false o.there u.changed u.others j m
-      w = was_there (node_at old) (node_at new) key o.node false o.there u.changed u.others j m g
+      w : WasThere (node_at old) (node_at new) key o.node false o.node.bare o.there u.changed u.others j m
+      w = was_there (node_at old) (node_at new) key o.node false o.node.bare o.there u.changed u.others j m g
 
       by_mark : ((j ≡ key) × (m.live ≡ false)) ⊎ ((j ≡ key → ⊥) × (m.live ≡ w.old.live)) → key_of new m.spot.id ≡ Some j
       by_mark (inl p) = absurd (not_both m.live l p.1)
@@ -65,11 +65,12 @@ module _ (old new : Tree) (id : ℤ) (key : ℕ) (s : IsSound old) (o : IsOwner 
   taken = record {
     sound = record {
       placed = subst (λ r. IsTree (node_at new) r (slab_len new.nodes) (key_of new)) (sym root) (subst (λ z. IsTree (node_at new) old.root z (key_of new)) (sym size)
-          (marked_tree (node_at old) (node_at new) key o.node false o.there u.changed u.others old.root (slab_len old.nodes) (key_of old) (key_of new) s.placed (λ x e. ap is_some (numbers x) ∙ e) still_owned));
+          (marked_tree (node_at old) (node_at new) key o.node false o.node.bare o.there u.changed u.others old.root (slab_len old.nodes) (key_of old) (key_of new) s.placed (λ x e. ap is_some (numbers x) ∙ e) still_owned
+          (marked_open (node_at old) (node_at new) key o.node false o.node.bare o.there u.changed u.others old.root (slab_len old.nodes) (key_of old) s.placed (inr refl) (λ e. absurd (let f : false ≡ true = e in cc)))));
       counted = live ∙ ap (λ n. n - 1) s.counted ∙ sym (ap count_of (settled_state old new id None taken_rows) ∙ count-less (tree_state old) (0, id) (place o.node.spot) (owner_row (node_at old) old.numbers.entries id key o));
     };
     state = settled_state old new id None taken_rows;
-    kept = nodes_kept old new (marked_stays (node_at old) (node_at new) key o.node false o.there u.changed u.others);
+    kept = nodes_kept old new (marked_stays (node_at old) (node_at new) key o.node false o.node.bare o.there u.changed u.others);
   }
 
 -- there was one
@@ -96,12 +97,12 @@ some_kept false key o e = e
 -- a node that is made live again
 module _ (old new : Tree) (spot : Spot) (key : ℕ) (n : Node) (s : IsSound old) (free : NoPoint old spot.id) (there : node_at old key ≡ Some n) (same : n.spot ≡ spot)
     (u : Updates old.nodes new.nodes key (Some (record n { live = true }))) (numbers : (x : ℤ) → key_of new x ≡ cond (int_eq spot.id x) (Some key) (key_of old x))
-    (root : new.root ≡ old.root) (size : slab_len new.nodes ≡ slab_len old.nodes) where
+    (root : new.root ≡ old.root) (size : slab_len new.nodes ≡ slab_len old.nodes) (clear : IsClear old spot) where
   now_owned : (j : ℕ) (m : Node) → node_at new j ≡ Some m → m.live ≡ true → key_of new m.spot.id ≡ Some j
   now_owned j m g l = by_mark w.live
     where
-      w : WasThere (node_at old) (node_at new) key n true there u.changed u.others j m
-      w = was_there (node_at old) (node_at new) key n true there u.changed u.others j m g
+      w : WasThere (node_at old) (node_at new) key n true n.bare there u.changed u.others j m
+      w = was_there (node_at old) (node_at new) key n true n.bare there u.changed u.others j m g
 
       by_mark : ((j ≡ key) × (m.live ≡ true)) ⊎ ((j ≡ key → ⊥) × (m.live ≡ w.old.live)) → key_of new m.spot.id ≡ Some j
       by_mark (inl p) =
@@ -135,12 +136,14 @@ module _ (old new : Tree) (spot : Spot) (key : ℕ) (n : Node) (s : IsSound old)
   woken live = record {
     sound = record {
       placed = subst (λ r. IsTree (node_at new) r (slab_len new.nodes) (key_of new)) (sym root) (subst (λ z. IsTree (node_at new) old.root z (key_of new)) (sym size)
-          (marked_tree (node_at old) (node_at new) key n true there u.changed u.others old.root (slab_len old.nodes) (key_of old) (key_of new) s.placed
-          (λ x e. ap is_some (numbers x) ∙ some_kept (int_eq spot.id x) key (key_of old x) e) now_owned));
+          (marked_tree (node_at old) (node_at new) key n true n.bare there u.changed u.others old.root (slab_len old.nodes) (key_of old) (key_of new) s.placed
+          (λ x e. ap is_some (numbers x) ∙ some_kept (int_eq spot.id x) key (key_of old x) e) now_owned
+          (marked_open (node_at old) (node_at new) key n true n.bare there u.changed u.others old.root (slab_len old.nodes) (key_of old) s.placed (inr refl)
+          (λ e k j h w. clear k j (ap (λ r. way (node_at old) r k old.root) (sym same) ∙ w)))));
       counted = live ∙ sym one_woken;
     };
     state = settled_state old new spot.id (Some (place spot)) woken_rows;
-    kept = nodes_kept old new (marked_stays (node_at old) (node_at new) key n true there u.changed u.others);
+    kept = nodes_kept old new (marked_stays (node_at old) (node_at new) key n true n.bare there u.changed u.others);
   }
 
 -- the same, from what the code computes
@@ -153,9 +156,9 @@ taken_from old mid id given key s e o u size rest =
 
 pub woken_from : (old mid new : Tree) (spot : Spot) (key : ℕ) (given : ℤ) → IsSound old → NoPoint old spot.id → ((n : Node) × (node_at old key ≡ Some n) × (n.spot ≡ spot)) → given ≡ spot.id
     → ((n : Node) → node_at old key ≡ Some n → Updates old.nodes mid.nodes key (Some (record n { live = true }))) → slab_len mid.nodes ≡ slab_len old.nodes → mid ≡ record old { nodes = mid.nodes }
-    → ((x : ℤ) → key_of new x ≡ cond (int_eq given x) (Some key) (key_of mid x)) → new ≡ record mid { numbers = new.numbers }
+    → ((x : ℤ) → key_of new x ≡ cond (int_eq given x) (Some key) (key_of mid x)) → new ≡ record mid { numbers = new.numbers } → IsClear old spot
     → (count_of (tree_state new) ≡ new.live + 1) × Changed old (record new { live = new.live + 1 }) spot.id (Some (place spot))
-woken_from old mid new spot key given s free there e u size rest keys more =
+woken_from old mid new spot key given s free there e u size rest keys more clear =
     let numbers : (x : ℤ) → key_of new x ≡ cond (int_eq spot.id x) (Some key) (key_of old x) =
     λ x. keys x ∙ ap (λ y. cond (int_eq y x) (Some key) (key_of mid x)) e ∙ ap (λ (t : Tree). cond (int_eq spot.id x) (Some key) (key_of t x)) rest in
     let nodes : new.nodes ≡ mid.nodes = ap (λ (t : Tree). t.nodes) more in
@@ -163,6 +166,6 @@ woken_from old mid new spot key given s free there e u size rest keys more =
     let root : new.root ≡ old.root = ap (λ (t : Tree). t.root) more ∙ ap (λ (t : Tree). t.root) rest in
     let updates : Updates old.nodes new.nodes key (Some (record there.0 { live = true })) = subst (λ ns. Updates old.nodes ns key (Some (record there.0 { live = true }))) (sym nodes) (u there.0 there.1) in
     let len : slab_len new.nodes ≡ slab_len old.nodes = ap slab_len nodes ∙ size in (
-      one_woken old new spot key there.0 s free there.1 there.2 updates numbers root len ∙ ap (λ c. c + 1) (sym live),
-      woken old (record new { live = new.live + 1 }) spot key there.0 s free there.1 there.2 updates numbers root len (ap (λ c. c + 1) live),
+      one_woken old new spot key there.0 s free there.1 there.2 updates numbers root len clear ∙ ap (λ c. c + 1) (sym live),
+      woken old (record new { live = new.live + 1 }) spot key there.0 s free there.1 there.2 updates numbers root len clear (ap (λ c. c + 1) live),
     )

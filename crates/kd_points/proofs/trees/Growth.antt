@@ -1,15 +1,16 @@
 -- What a new node makes of a tree.
-use Rattle.std.specs.Prelude.{◌≡◌, ℕ, ℤ, suc, ◌+◌, ◌<◌, Bool, true, false, cond, Option, Some, None, is_some, refl, ◌⊎◌}
+use Rattle.std.specs.Prelude.{◌≡◌, ℕ, ℤ, zero, suc, ◌≤◌, ◌+◌, ◌<◌, Bool, true, false, cond, Option, Some, None, is_some, refl, ◌⊎◌}
 use Rattle.std.proofs.Common.{sym, ◌∙◌, ap, subst, inl, inr, arith}
 use Rattle.std.specs.Ordering.{int_eq}
 use Rattle.gx_base.specs.declared.calls.Spot.{Spot}
 use Rattle.kd_points.specs.declared.nodes.Node.{Node}
 use Rattle.kd_points.specs.declared.nodes.Seat.TheVariants.{Free}
-use Rattle.kd_points.specs.Trees.{Nodes, is_left, child, child_of, way, depth_of, linked, FitsSpot, IsTree, IsSeat}
+use Rattle.kd_points.specs.Trees.{Nodes, is_left, child, child_of, way, depth_of, linked, is_bare, FitsSpot, IsTree, IsSeat, IsOpenTo}
 use Rattle.kd_points.specs.TreeStates.{place, row_of_node}
-use Rattle.kd_points.proofs.states.Basics.{same_key, int_eq-itself, int_eq-comm, none_some, some_is}
+use Rattle.kd_points.proofs.states.Basics.{same_key, not_both, int_eq-itself, int_eq-comm, none_some, some_is}
 use Rattle.kd_points.proofs.states.StateRows.{row_found, Settles, row_of_live, row_of_another, row_of_alike}
 use Rattle.kd_points.proofs.trees.Ways.{Amends, amends_itself, Stays, stays_itself, AllStay, ended, way_further, way_kept, depth_stays}
+use Rattle.kd_points.proofs.trees.Openings.{BareStays, open_kept, moved, less_or}
 use Rattle.kd_points.proofs.trees.Changes.{cond_true, cond_false, some_kept}
 
 -- the node with one child more
@@ -43,6 +44,10 @@ linked_live : (n : Node) (left : Bool) (c : ℕ) → (linked n left c).live ≡ 
 linked_live n true c = refl
 linked_live n false c = refl
 
+pub linked_bare : (n : Node) (left : Bool) (c : ℕ) → (linked n left c).bare ≡ n.bare
+linked_bare n true c = refl
+linked_bare n false c = refl
+
 linked_child : (n : Node) (left : Bool) (c : ℕ) (side : Bool) (d : ℕ) → child (linked n left c) side ≡ Some d → (child n side ≡ Some d) ⊎ (c ≡ d)
 linked_child n true c true d e = inr (some_is c d e)
 linked_child n true c false d e = inl e
@@ -58,6 +63,14 @@ module _ (look next : Nodes) (key at : ℕ) (n leaf : Node) (left : Bool) (vacan
       by_key (inl e) q = subst (λ o. Stays o (next j)) (sym (ap look e ∙ vacant)) tt
       by_key (inr d) (inl e) = subst (λ o. Stays o (next j)) (sym (ap look e ∙ stood)) (subst (Stays (Some n)) (sym (ap next e ∙ there)) (linked_amends n left key free))
       by_key (inr d) (inr f) = subst (Stays (look j)) (sym (others j d f)) (stays_itself (look j))
+
+  grown_bare : BareStays look next
+  grown_bare j f = by_key (same_key j key) (same_key j at)
+    where
+      by_key : (j ≡ key) ⊎ (j ≡ key → ⊥) → (j ≡ at) ⊎ (j ≡ at → ⊥) → is_bare (next j) ≡ false
+      by_key (inl e) q = absurd (not_both (is_bare (look j)) (ap is_bare (ap look e ∙ vacant)) f)
+      by_key (inr d) (inl e) = ap is_bare (ap next e ∙ there) ∙ linked_bare n left key ∙ sym (ap is_bare (ap look e ∙ stood)) ∙ f
+      by_key (inr d) (inr g) = ap is_bare (others j d g) ∙ f
 
   -- what belonged at the seat has its way to the new node
   pub way_to_new : (r : Spot) (root : Option ℕ) → way look r n.depth root ≡ Some at → is_left n r ≡ left → way next r (suc n.depth) root ≡ Some key
@@ -107,7 +120,8 @@ module _ (look next : Nodes) (key at : ℕ) (n leaf : Node) (left : Bool) (vacan
 
   module _ (root : Option ℕ) (size : ℕ) (numbers after : ℤ → Option ℕ) (t : IsTree look root size numbers) (on_way : way look leaf.spot n.depth root ≡ Some at) (side : is_left n leaf.spot ≡ left)
       (bare : (s : Bool) → child leaf s ≡ None) (deep : leaf.depth ≡ suc n.depth) (fits : FitsSpot leaf.spot) (keys : (x : ℤ) → after x ≡ cond (int_eq leaf.spot.id x) (Some key) (numbers x))
-      (unused : (j : ℕ) (x : Node) → look j ≡ Some x → x.live ≡ true → int_eq x.spot.id leaf.spot.id ≡ false) where
+      (unused : (j : ℕ) (x : Node) → look j ≡ Some x → x.live ≡ true → int_eq x.spot.id leaf.spot.id ≡ false)
+      (clear : (k j : ℕ) → way look leaf.spot k root ≡ Some j → is_bare (look j) ≡ false) (fresh : leaf.bare ≡ false) where
     leaf_placed : way next leaf.spot leaf.depth root ≡ Some key
     leaf_placed = ap (λ d. way next leaf.spot d root) deep ∙ way_to_new leaf.spot root on_way side
 
@@ -145,6 +159,20 @@ module _ (look next : Nodes) (key at : ℕ) (n leaf : Node) (left : Bool) (vacan
     all_fit j m (inl p) = subst (λ (x : Node). FitsSpot x.spot) p.1 fits
     all_fit j m (inr w) = subst FitsSpot (sym w.amends.spot) (t.fits j w.old w.stood_there)
 
+    leaf_open : IsOpenTo next root leaf.spot leaf.depth
+    leaf_open k x h e = by_depth (less_or k (suc n.depth) (subst (λ d. k ≤ d) deep h))
+      where
+        by_depth : (k ≡ suc n.depth) ⊎ (suc k ≤ suc n.depth) → is_bare (next x) ≡ false
+        by_depth (inl q) =
+            let same : key ≡ x = some_is key x (sym (way_to_new leaf.spot root on_way side) ∙ ap (λ d. way next leaf.spot d root) (sym q) ∙ e) in
+            ap is_bare (ap next (sym same) ∙ here) ∙ fresh
+        by_depth (inr q) = open_kept look next grown_stays grown_bare root leaf.spot n.depth at on_way (λ k j h. clear k j) k x (omega arith) e
+
+    way_passable : (j : ℕ) (m : Node) → m.live ≡ true → ((j ≡ key) × (leaf ≡ m)) ⊎ Stood j m → IsOpenTo next root m.spot m.depth
+    way_passable j m l (inl p) = subst (λ (x : Node). IsOpenTo next root x.spot x.depth) p.1 leaf_open
+    way_passable j m l (inr w) = moved next root w.old.spot m.spot w.old.depth m.depth w.amends.spot w.amends.depth
+        (open_kept look next grown_stays grown_bare root w.old.spot w.old.depth j (t.placed j w.old w.stood_there) (t.passable j w.old w.stood_there (sym w.live ∙ l)))
+
     pub grown_tree : IsTree next root (size + 1) after
     grown_tree = record {
       rooted = λ r e. depth_stays look next grown_stays r 0 (t.rooted r e);
@@ -154,6 +182,7 @@ module _ (look next : Nodes) (key at : ℕ) (n leaf : Node) (left : Bool) (vacan
       numbered = λ j m g. numbered j m (stood_or_new j m g);
       owned = λ j m g l. owned j m l (stood_or_new j m g);
       fits = λ j m g. all_fit j m (stood_or_new j m g);
+      passable = λ j m g l. way_passable j m l (stood_or_new j m g);
     }
 
     pub grown_rows : leaf.live ≡ true → Settles look next numbers after leaf.spot.id (Some (place leaf.spot))
@@ -172,7 +201,7 @@ module _ (look next : Nodes) (key at : ℕ) (n leaf : Node) (left : Bool) (vacan
 -- the first node of a tree
 module _ (look next : Nodes) (key : ℕ) (leaf : Node) (vacant : look key ≡ None) (here : next key ≡ Some leaf) (others : (j : ℕ) → (j ≡ key → ⊥) → next j ≡ look j)
     (size : ℕ) (numbers after : ℤ → Option ℕ) (t : IsTree look None size numbers) (bare : (s : Bool) → child leaf s ≡ None) (deep : leaf.depth ≡ 0) (fits : FitsSpot leaf.spot)
-    (keys : (x : ℤ) → after x ≡ cond (int_eq leaf.spot.id x) (Some key) (numbers x)) where
+    (keys : (x : ℤ) → after x ≡ cond (int_eq leaf.spot.id x) (Some key) (numbers x)) (fresh : leaf.bare ≡ false) where
   -- a tree without a root has no nodes
   no_nodes : (j : ℕ) (m : Node) → look j ≡ Some m → ⊥
   no_nodes j m g = ended look m.spot m.depth j (t.placed j m g)
@@ -194,6 +223,10 @@ module _ (look next : Nodes) (key : ℕ) (leaf : Node) (vacant : look key ≡ No
   first_key : after leaf.spot.id ≡ Some key
   first_key = keys leaf.spot.id ∙ cond_true (int_eq leaf.spot.id leaf.spot.id) (Some key) (numbers leaf.spot.id) (int_eq-itself leaf.spot.id)
 
+  first_open : IsOpenTo next (Some key) leaf.spot leaf.depth
+  first_open zero x h e = ap is_bare (ap next (sym (some_is key x e)) ∙ here) ∙ fresh
+  first_open (suc k) x h e = absurd (omega (arith, deep))
+
   pub first_tree : IsTree next (Some key) (size + 1) after
   first_tree = record {
     rooted = λ r e. ap (λ k. depth_of (next k)) (sym (some_is key r e)) ∙ ap depth_of here ∙ ap Some deep;
@@ -203,6 +236,7 @@ module _ (look next : Nodes) (key : ℕ) (leaf : Node) (vacant : look key ≡ No
     numbered = λ j m g. subst (λ (x : Node). is_some (after x.spot.id) ≡ true) (alone j m g).1 (ap is_some first_key);
     owned = λ j m g l. let p = alone j m g in subst (λ (x : Node). after x.spot.id ≡ Some j) p.1 (first_key ∙ ap Some (sym p.0));
     fits = λ j m g. subst (λ (x : Node). FitsSpot x.spot) (alone j m g).1 fits;
+    passable = λ j m g l. subst (λ (x : Node). IsOpenTo next (Some key) x.spot x.depth) (alone j m g).1 first_open;
   }
 
   pub first_rows : leaf.live ≡ true → Settles look next numbers after leaf.spot.id (Some (place leaf.spot))

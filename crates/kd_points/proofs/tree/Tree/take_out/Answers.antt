@@ -11,17 +11,19 @@ pub overflow_sub-self : goal.overflow_sub-self
 overflow_sub-self c =
     subst (λ (t : Tree). 1 ≤ t.live) (sym c.mark.ensures.rest) (one_there c.args.self.now (to_z w64 (of_z w64 c.args.id)) c.in-Some.key c.requires c.in-Some.ensures.some)
 
-pub returns-in-Some-clause-sound : goal.returns-in-Some-clause-sound
-returns-in-Some-clause-sound c =
+pub bury-requires : goal.bury-requires
+bury-requires c =
     (taken_from c.args.self.now c.mark.new.self c.args.id (to_z w64 (of_z w64 c.args.id)) c.in-Some.key c.requires (to_z-of_z w64 c.args.id c.ranges.id) c.in-Some.ensures.some c.mark.ensures.nodes c.mark.ensures.count c.mark.ensures.rest).sound
 
 pub returns-in-Some-clause-state : goal.returns-in-Some-clause-state
 returns-in-Some-clause-state c =
-    (taken_from c.args.self.now c.mark.new.self c.args.id (to_z w64 (of_z w64 c.args.id)) c.in-Some.key c.requires (to_z-of_z w64 c.args.id c.ranges.id) c.in-Some.ensures.some c.mark.ensures.nodes c.mark.ensures.count c.mark.ensures.rest).state
+    c.bury.ensures.state
+    ∙ (taken_from c.args.self.now c.mark.new.self c.args.id (to_z w64 (of_z w64 c.args.id)) c.in-Some.key c.requires (to_z-of_z w64 c.args.id c.ranges.id) c.in-Some.ensures.some c.mark.ensures.nodes c.mark.ensures.count c.mark.ensures.rest).state
 
 pub returns-in-Some-clause-kept : goal.returns-in-Some-clause-kept
-returns-in-Some-clause-kept c =
-    (taken_from c.args.self.now c.mark.new.self c.args.id (to_z w64 (of_z w64 c.args.id)) c.in-Some.key c.requires (to_z-of_z w64 c.args.id c.ranges.id) c.in-Some.ensures.some c.mark.ensures.nodes c.mark.ensures.count c.mark.ensures.rest).kept
+returns-in-Some-clause-kept c = λ r h.
+    c.bury.ensures.kept r
+    ((taken_from c.args.self.now c.mark.new.self c.args.id (to_z w64 (of_z w64 c.args.id)) c.in-Some.key c.requires (to_z-of_z w64 c.args.id c.ranges.id) c.in-Some.ensures.some c.mark.ensures.nodes c.mark.ensures.count c.mark.ensures.rest).kept r h)
 
 pub returns-in-None-clause-state : goal.returns-in-None-clause-state
 returns-in-None-clause-state c =

@@ -14,12 +14,12 @@ fits old key spot s there = let f : FitsSpot spot = subst FitsSpot there.2 (s.pl
 pub count_one-requires : goal.count_one-requires
 count_one-requires c =
     (woken_from c.args.self.now c.mark.new.self c.number.new.self c.args.spot c.args.key (to_z w64 (of_z w64 c.args.spot.id)) c.requires.sound c.requires.free c.requires.there (fits c.args.self.now c.args.key c.args.spot c.requires.sound c.requires.there)
-    c.mark.ensures.nodes c.mark.ensures.count c.mark.ensures.rest c.number.ensures.keys c.number.ensures.rest).0
+    c.mark.ensures.nodes c.mark.ensures.count c.mark.ensures.rest c.number.ensures.keys c.number.ensures.rest c.requires.clear).0
 
 pub returns : goal.returns
 returns c =
     let w : Changed c.args.self.now c.count_one.new.self c.args.spot.id (Some (place c.args.spot)) =
     subst (λ (t : Tree). Changed c.args.self.now t c.args.spot.id (Some (place c.args.spot))) (sym c.count_one.ensures)
     (woken_from c.args.self.now c.mark.new.self c.number.new.self c.args.spot c.args.key (to_z w64 (of_z w64 c.args.spot.id)) c.requires.sound c.requires.free c.requires.there (fits c.args.self.now c.args.key c.args.spot c.requires.sound c.requires.there)
-    c.mark.ensures.nodes c.mark.ensures.count c.mark.ensures.rest c.number.ensures.keys c.number.ensures.rest).1 in
+    c.mark.ensures.nodes c.mark.ensures.count c.mark.ensures.rest c.number.ensures.keys c.number.ensures.rest c.requires.clear).1 in
     record { sound = w.sound; state = w.state; kept = w.kept }
