@@ -4,13 +4,12 @@ ghost use Rattle.kd_points.specs.PointsState.{points_state};
 ghost use Rattle.shared_sets.specs.CellsState.{cells_state};
 ghost use Rattle.clustering.specs.CloudState.{state_of};
 ghost use Rattle.clustering.specs.PointCalls.{rooms};
-ghost use Rattle.clustering.specs.Starts.{start_points, start_weights, start_states, start_ready};
+ghost use Rattle.clustering.specs.Starts.{start_weights, start_states, start_ready};
 
 use crate::cloud::Cloud;
-use crate::point_calls::{id_item, number_call, point_call};
+use crate::point_calls::{id_item, number_call};
 use gx_base::{Item, NoMemory, SeqType, Spot};
 use kd_points::KdPoints;
-use kd_points::point_methods::ADD;
 use shared_sets::Cells;
 use shared_sets::cells_methods::SET;
 use std::alloc::Global;
@@ -21,7 +20,7 @@ pub fn start(alloc: Global, spots: &[Spot]) -> Result<(Vec<Cloud>, Vec<Item>), N
     ensures states { IfOk result (λ made. in_rooms (map state_of made.0.items) ≡ start_states spots.now) }
     ensures ready { IfOk result (λ made. made.1.items ≡ start_ready spots.now) }
 {
-    let points = points_of(alloc, spots)?;
+    let points = KdPoints::with_points(alloc, spots)?;
     let weights = weights_of(alloc, spots)?;
     let rooms = rooms_of(alloc, points, weights)?;
     let ready = items_of(alloc, spots)?;
@@ -36,18 +35,6 @@ fn rooms_of(alloc: Global, points: KdPoints, weights: Cells) -> Result<Vec<Cloud
     rooms.push(Cloud::Points(points))?;
     rooms.push(Cloud::Weights(weights))?;
     Ok(rooms)
-}
-
-/// The points. They are tidied, since points in order make a tree as deep as there are points.
-fn points_of(alloc: Global, spots: &[Spot]) -> Result<KdPoints, NoMemory>
-    ensures { IfOk result (λ points. points_state points ≡ start_points spots.now) }
-{
-    let mut points = KdPoints::new(alloc);
-    for spot in spots {
-        points.apply(point_call(ADD, *spot))?;
-    }
-    points.tidy()?;
-    Ok(points)
 }
 
 fn weights_of(alloc: Global, spots: &[Spot]) -> Result<Cells, NoMemory>

@@ -1,18 +1,22 @@
 -- What points stand for.
-use Rattle.std.specs.Prelude.{◌≡◌, ℕ, pos, Bool, true, false, IsTrue, if◌then◌else◌, refl}
+use Rattle.std.specs.Prelude.{◌≡◌, ℕ, pos, Bool, true, false, IsTrue, if◌then◌else◌, List, refl}
 use Rattle.std.proofs.Common.{sym, subst}
+use Rattle.std.specs.FinMap as map
+use Rattle.std.specs.List.{fold}
 use Rattle.std.specs.Ordering.{int_eq}
 use Rattle.gx_base.specs.declared.calls.Call.{Call}
 use Rattle.gx_base.specs.declared.calls.Made.{Made}
 use Rattle.gx_base.specs.declared.calls.Reply.{Reply}
+use Rattle.gx_base.specs.declared.calls.Spot.{Spot}
 use Rattle.gx_base.specs.declared.kinds.Kind.{Kind}
 use Rattle.gx_base.specs.declared.kinds.Kind.TheVariants.{Points}
+use Rattle.gx_base.specs.Kinds.{kind_number}
 use Rattle.gx_base.specs.Methods.{is_method}
-use Rattle.gx_base.specs.PointKind.{PointDeed, Add, Remove, At, Nearest, Nothing, point_deed, point_action}
+use Rattle.gx_base.specs.PointKind.{PointDeed, Add, Remove, At, Nearest, Nothing, point_deed, point_action, point_first}
 use Rattle.gx_base.specs.RowActions.{RowAction}
 use Rattle.gx_base.specs.Spots.{spot_of_call}
 use Rattle.gx_base.specs.States.{State}
-use Rattle.gx_base.specs.Steps.{IsState}
+use Rattle.gx_base.specs.Steps.{IsState, next_state}
 use Rattle.gx_base.proofs.CallerLemmas.{point_deed-foreign}
 use Rattle.kd_points.specs.declared.point_set.KdPoints.{KdPoints}
 use Rattle.kd_points.specs.TreeStates.{tree_state, dead_nodes, has_node}
@@ -22,6 +26,21 @@ use Rattle.kd_points.specs.TreePlaces.{tree_state-HoldsPlaces}
 -- the state of points
 abbrev pub points_state : KdPoints → State
 points_state points = tree_state points.tree
+
+abbrev pub no_points : State
+no_points = record { kind = kind_number Points; rows = map.empty }
+
+-- the call that adds a point
+abbrev pub add_call : Spot → Call
+add_call r = record { method = point_first; a = r.id; b = r.x; c = r.y; d = r.z }
+
+-- a point more, where it may be added
+abbrev pub with_added : State → Spot → State
+with_added s r = next_state s (add_call r)
+
+-- these points, added in order
+abbrev pub added_points : List Spot → State
+added_points spots = fold with_added no_points spots
 
 -- how many distances `nearest` has taken, up to the greatest number of 64 bits
 abbrev pub distances_taken : KdPoints → ℕ

@@ -4,8 +4,10 @@ ghost use Rattle.gx_base.specs.Meanings.{number_reply};
 ghost use Rattle.gx_base.specs.PointKind.{may_add, place_of, at_reply as reply_of_at, nearest_reply as reply_of_nearest};
 ghost use Rattle.gx_base.specs.RowActions.{same_content};
 ghost use Rattle.gx_base.specs.Spots as near;
+ghost use Rattle.kd_points.specs.PointsState.{add_call as call_of_add};
 ghost use Rattle.kd_points.specs.TreeStates.{place};
 
+use crate::point_methods::ADD;
 use gx_base::{Call, Reply, Spot};
 
 /// The four arguments as a point.
@@ -17,6 +19,19 @@ pub fn spot_of_call(call: Call) -> Spot
         x: call.b,
         y: call.c,
         z: call.d,
+    }
+}
+
+/// The call that adds a point.
+pub fn add_call(spot: Spot) -> Call
+    ensures { result ≡ call_of_add spot }
+{
+    Call {
+        method: ADD,
+        a: spot.id,
+        b: spot.x,
+        c: spot.y,
+        d: spot.z,
     }
 }
 

@@ -3,7 +3,9 @@ ghost use Rattle.std.specs.FinMap as map;
 ghost use Rattle.std.proofs.Props.{props};
 ghost use Rattle.kd_points.specs.TreeStates.{IsSound};
 
-use crate::point_calls::{at_reply, is_addable, is_at, nearest_reply, spot_of_call, yes_or_no};
+use crate::point_calls::{
+    add_call, at_reply, is_addable, is_at, nearest_reply, spot_of_call, yes_or_no,
+};
 use crate::point_methods::{PointDeed, deed_of};
 use crate::point_shipping::point_table;
 use crate::search::nearest;
@@ -30,7 +32,7 @@ impl KdPoints {
     ghost use Rattle.gx_base.specs.Spots as near;
     ghost use Rattle.gx_base.specs.States.{with_row};
     ghost use Rattle.kd_points.specs.TreeStates.{count_of, has_node};
-    ghost use Rattle.kd_points.specs.PointsState.{points_state, distances_taken, change_of, changed_room, has_points_room};
+    ghost use Rattle.kd_points.specs.PointsState.{points_state, distances_taken, change_of, changed_room, has_points_room, added_points, dead_nodes_of, IsTrim, IsBalanced};
 
     /// No points.
     pub fn new(alloc: Global) -> KdPoints
@@ -42,6 +44,35 @@ impl KdPoints {
             looked: 0,
             alloc,
         }
+    }
+
+    /// The points of a list, added in order. The tree is made anew as it grows, so that points in a row make no deep one.
+    pub fn with_points(alloc: Global, spots: &[Spot]) -> Result<KdPoints, NoMemory>
+        ensures state { IfOk result (λ points. points_state points ≡ added_points spots.now) }
+        ensures looked { IfOk result (λ points. distances_taken points ≡ 0) }
+        ensures balanced { IfOk result IsBalanced }
+    {
+        let mut points = KdPoints::new(alloc);
+        for spot in spots {
+            points.apply(add_call(*spot))?;
+            points.tidy()?;
+        }
+        points.rebuild()?;
+        Ok(points)
+    }
+
+    /// Makes the tree anew, of the points that there are.
+    fn rebuild(&mut self) -> Result<(), NoMemory>
+        ensures state { points_state self.new ≡ points_state self.old }
+        ensures looked { distances_taken self.new ≡ distances_taken self.old }
+        ensures trim { OnOk result (IsTrim self.new) }
+        ensures dropped { OnOk result (dead_nodes_of self.new ≡ 0) }
+        ensures balanced { OnOk result (IsBalanced self.new) }
+        ensures refused { OnErr result (self.new ≡ self.old) }
+    {
+        let tree = self.tree.rebuilt(self.alloc)?;
+        self.tree = tree;
+        Ok(())
     }
 
     /// The point of a number.
@@ -264,9 +295,7 @@ impl SeqType for KdPoints {
         if self.tree.is_lean() {
             return Ok(());
         }
-        let tree = self.tree.rebuilt(self.alloc)?;
-        self.tree = tree;
-        Ok(())
+        self.rebuild()
     }
 
     fn shipped(alloc: Global, kind: Kind, choice: Choice) -> Result<Table, NoMemory>

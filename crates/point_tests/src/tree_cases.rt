@@ -53,6 +53,37 @@ fn a_line_in_order_is_deep_and_found(rt: HostRuntime) -> Result<(), Fail> {
 }
 
 #[test]
+fn points_of_a_line_are_put_in_at_once(rt: HostRuntime) -> Result<(), Fail> {
+    let mut spots = Vec::new(rt.alloc());
+    for id in 0..LONG_LINE {
+        let x = id.wrapping_mul(3);
+        spots.push(Spot { id, x, y: x, z: 0 })?;
+    }
+    let mut points = KdPoints::with_points(rt.alloc(), &spots)?;
+    assert_eq!(rt; points.count(), 20_000);
+    let middle = points.apply(Call::new(NEAREST, 100, 300, 300, 0))?;
+    assert!(rt; middle == Reply::new(99, 297, 297, 0));
+    assert!(rt; points.looked() < 100);
+    Ok(())
+}
+
+#[test]
+fn points_that_may_not_be_added_are_left_out(rt: HostRuntime) -> Result<(), Fail> {
+    let mut spots = Vec::new(rt.alloc());
+    for (id, x, z) in [(1, 0, 0), (1, 5, 0), (-1, 0, 0), (2, 0, 1), (3, 4, 0)] {
+        spots.push(Spot { id, x, y: 0, z })?;
+    }
+    let points = KdPoints::with_points(rt.alloc(), &spots)?;
+    assert_eq!(rt; points.count(), 2);
+    assert!(rt;
+        points.at(1).is_some_and(|point| point.x == 0)
+            && points.at(2).is_none()
+            && points.at(3).is_some()
+    );
+    Ok(())
+}
+
+#[test]
 fn equal_points_are_found_by_number(rt: HostRuntime) -> Result<(), Fail> {
     let mut points = KdPoints::new(rt.alloc());
     for step in 0..LONG_LINE {

@@ -197,14 +197,6 @@ module _ (old new : Tree) (spot : Spot) (at : ℕ) (n : Node) (side : Bool) (c :
       by_length (inl h) = as_far k j (less_or k (depth_or_zero (node_at new at)) h) f
       by_length (inr h) = absurd (way_over (node_at new) spot (suc (depth_or_zero (node_at new at))) k new.root j (child_here None e) h f)
 
--- a node that isn't bare is as it would be noted
-pub veiled_already : (tree : Tree) (key : ℕ) (n : Node) → node_at tree key ≡ Some n → n.bare ≡ false → IsVeiled tree tree key false
-veiled_already tree key n g e = record {
-  nodes = λ m h. record { changed = h ∙ ap (λ v. Some (record m { bare = v })) (ap (λ (x : Node). x.bare) (some_is m n (sym h ∙ g)) ∙ e); others = λ j d. refl };
-  size = refl;
-  rest = refl;
-}
-
 -- the same, from what the code computes
 pub buried_from : (old new : Tree) (key : ℕ) (n : Node) (held : Option Node) (left right : Bool) → IsSound old → held ≡ node_at old key → held ≡ Some n → n.live ≡ false → left ≡ all_bare (node_at old) n.left → right ≡ all_bare (node_at old) n.right
     → left ≡ true → right ≡ true → IsVeiled old new key true → IsSame old new
