@@ -16,8 +16,8 @@ use gx_base::{Call, Item, NoMemory, Reply, Room, SeqType, Step};
 use rooms::{Rooms, Value};
 use std::mem;
 
-// Does a call on the gate that a value is, unless an uncommitted entry is in its way. It stands apart, so that its answer is
-// written where it is wanted: where it was inlined the answer was moved on, and it is as long as what it tells of a conflict.
+// Does a call on the gate that a value is, unless an uncommitted entry is in its way. Not inlined, as `go` and `call` are not:
+// an answer is as long as what it tells of a conflict, and one that is inlined is moved once more.
 #[inline(never)]
 fn call_in<T: SeqType, S: Screen<T>>(
     value: &mut Value<T, S>,
