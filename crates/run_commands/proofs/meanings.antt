@@ -1,9 +1,6 @@
 pub mod RunTables
 pub mod ModeTexts
 pub mod ClassifyAnswers
-pub mod LimitedRuns
-pub mod LoopRooms
-pub mod LoopPlays
 pub mod LoopLaws
 pub mod LoopLimits
 pub mod LoopAnswers

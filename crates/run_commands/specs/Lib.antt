@@ -1,9 +1,7 @@
 pub mod RunTables
 pub mod Inputs
 pub mod CommandMeaning
-pub mod LoopRuns
 pub mod LoopCommands
-pub mod LoopRooms
 pub mod commands
 pub mod CommandMeanings
 pub mod RunFaults

@@ -9,7 +9,8 @@ use Rattle.run_words.specs.declared.options.RunOptions.{RunOptions}
 use Rattle.run_commands.specs.declared.run_faults.TableFault.{TableFault}
 use Rattle.run_commands.specs.Inputs.{main_of}
 use Rattle.run_commands.specs.CommandMeaning.{CommandMeaning}
-use Rattle.run_commands.specs.LoopRuns.{Loop, GateTables, IsReportOf, IsRunPast, limit_in}
+use Rattle.loop_runs.specs.GateTables.{GateTables}
+use Rattle.loop_runs.specs.LoopRuns.{Loop, IsReportOf, IsRunPast, limit_in}
 
 pub record LoopCommand : Type 1 where
   -- what a file holds, and what the bytes of one call for: what it holds, a line of it that is told as faulty, or a limit that it

@@ -1,5 +1,5 @@
 -- The table of the gates of a kind.
-use Rattle.std.specs.Prelude.{◌≡◌, ◌≢◌, ℕ, ◌≤◌, true, false, ◌&&◌, ◌==◌, if◌then◌else◌, Option, Some, None, List, ⊤}
+use Rattle.std.specs.Prelude.{◌≡◌, ℕ, ◌≤◌, true, false, ◌&&◌, ◌==◌, if◌then◌else◌, Option, Some, None, List, ⊤}
 use Rattle.std.specs.FinMap as map
 use Rattle.gx_base.specs.Methods.{is_method}
 use Rattle.gx_base.specs.Tables.{Rows}
@@ -8,9 +8,7 @@ use Rattle.gx_base.specs.declared.kinds.Kind.{Kind}
 use Rattle.gx_base.specs.declared.kinds.Choice.{Choice}
 use Rattle.gx_base.specs.Kinds.{kind_number}
 use Rattle.gx_base.specs.ShippedTables.{KindTables}
-use Rattle.cond_lattice.specs.declared.grades.Grade.TheVariants.{General}
-use Rattle.cond_lattice.specs.Grades.{table_grade}
-use Rattle.table_choice.specs.RunTables.{IsTableOfRun, IsFaultyText, IsAbove, MayServe}
+use Rattle.table_choice.specs.RunTables.{IsTableOfRun, IsFaultyText, IsAbove}
 use Rattle.run_commands.specs.declared.run_faults.TableFault.{TableFault}
 use Rattle.run_commands.specs.declared.run_faults.TableFault.TheVariants.{Line, Pair}
 use Rattle.run_commands.specs.declared.run_faults.RunFault.{RunFault}
@@ -49,8 +47,3 @@ IsBadTable kind tables (Some bytes) (Pair first second) = IsAbove kind tables.pr
 abbrev pub IsTableFault : Kind → TableFault → Type 0
 IsTableFault kind (Line line) = 1 ≤ line
 IsTableFault kind (Pair first second) = (is_method (kind_number kind) first ≡ true) × (is_method (kind_number kind) second ≡ true)
-
--- gates of the kind may have the table, and remembering what earlier calls saw is enough to keep it
-pub record ServesGates (kind : Kind) (table : RowMap) : Type 0 where
-  pub serves : MayServe (kind_number kind) (row_of table)
-  pub class : table_grade (kind_number kind) (row_of table) ≢ General

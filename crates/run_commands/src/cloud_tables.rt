@@ -7,7 +7,8 @@ ghost use Rattle.gx_base.specs.declared.kinds.Kind.TheVariants.{Points, Cells};
 ghost use Rattle.kd_points.specs.PointTables.{point_tables};
 ghost use Rattle.shared_sets.specs.CellsTables.{cells_tables};
 ghost use Rattle.run_commands.specs.RunFaults.{FaultsWhere, fault_of_conditions};
-ghost use Rattle.run_commands.specs.RunTables.{ServesGates, IsBadTable, IsRunTable, TellsTable};
+ghost use Rattle.loop_runs.specs.GateTables.{ServesGates};
+ghost use Rattle.run_commands.specs.RunTables.{IsBadTable, IsRunTable, TellsTable};
 ghost use Rattle.run_commands.specs.commands.Cluster.{AreBadConditions, AreChosen, AreRunTables, IsTextOf, IsBadText};
 ghost use Rattle.run_commands.specs.declared.run_faults.TableFault.{TableFault};
 ghost use Rattle.run_commands.specs.declared.run_faults.RunFault.TheVariants as faults;
@@ -18,14 +19,8 @@ use clustering::Cloud;
 use cond_syntax::laws::read_tables_are_of_wanted_kinds;
 use cond_text::{TextFault, read_table};
 use gx_base::{Choice, Kind, Table};
+use loop_runs::CloudTables;
 use std::alloc::Global;
-
-/// The tables of both kinds.
-#[derive(Drop)]
-pub(crate) struct CloudTables {
-    pub(crate) points: Table,
-    pub(crate) cells: Table,
-}
 
 /// Whatever is wrong with the text of conditions, its line is told.
 fn bad_text(fault: TextFault) -> RunFault

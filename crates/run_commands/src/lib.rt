@@ -5,12 +5,9 @@
 //! `specs/commands/` what each one does; its code stands in `src/commands/`.
 #![tactic(auto)]
 
-mod cloud_runs;
 mod cloud_tables;
 mod commands;
 mod inputs;
-mod loop_runs;
-mod network_runs;
 mod run_faults;
 mod run_tables;
 

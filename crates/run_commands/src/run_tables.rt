@@ -9,7 +9,8 @@ ghost use Rattle.gx_base.specs.TableRows.{row_of};
 ghost use Rattle.cond_lattice.specs.declared.grades.Grade.TheVariants.{General};
 ghost use Rattle.cond_lattice.specs.Grades.{table_grade};
 ghost use Rattle.run_commands.specs.RunFaults.{FaultsWhere};
-ghost use Rattle.run_commands.specs.RunTables.{GainsRows, IsWholeTable, TellsTable, ServesGates, IsRunTable, IsBadTable};
+ghost use Rattle.loop_runs.specs.GateTables.{ServesGates};
+ghost use Rattle.run_commands.specs.RunTables.{GainsRows, IsWholeTable, TellsTable, IsRunTable, IsBadTable};
 ghost use Rattle.run_commands.specs.declared.run_faults.RunFault.TheVariants as faults;
 ghost use Rattle.run_commands.specs.declared.run_faults.TableFault.{TableFault};
 

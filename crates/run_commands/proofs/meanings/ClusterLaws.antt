@@ -1,36 +1,25 @@
--- What is shown of `cluster`, and of the runs of points.
-use Rattle.std.proofs.Common.{◌≡◌, inl, inr, ℕ, ◌+◌, ◌^◌, ◌<◌, false, Err, List, [], ◌∷◌, Option, Some, None, refl, sym, ap, ◌∙◌, arith}
-use Rattle.gx_base.specs.declared.calls.Spot.{Spot}
+-- What is shown of `cluster`.
+use Rattle.std.proofs.Common.{◌≡◌, inl, inr, ℕ, Err, List, [], ◌∷◌, Option, Some, None, refl, sym, ◌∙◌}
 use Rattle.gx_base.specs.declared.inputs.What.{What}
 use Rattle.gx_base.specs.declared.inputs.What.TheVariants.{File, Nodes, Arcs, Points as PointsLimit, Nets, Horizon, Size}
 use Rattle.gx_base.specs.declared.inputs.InputFault.TheVariants.{Large}
-use Rattle.gx_base.specs.declared.items.Item.{Item}
 use Rattle.gx_base.specs.declared.kinds.Choice.{Choice}
 use Rattle.gx_base.specs.declared.kinds.Choice.TheVariants.{Precise}
 use Rattle.gx_base.specs.declared.kinds.Kind.TheVariants.{Points, Cells}
-use Rattle.gx_base.specs.Outcomes.{WholeCommit}
-use Rattle.gx_base.specs.Plans.{Plan, Operator}
-use Rattle.gx_base.specs.States.{State}
 use Rattle.gx_base.specs.TableRows.{RowMap}
 use Rattle.kd_points.specs.PointTables.{point_tables}
 use Rattle.shared_sets.specs.CellsTables.{cells_tables}
-use Rattle.clustering.specs.PointCalls.{rooms}
 use Rattle.clustering.specs.PointFiles.{CallsFor}
-use Rattle.clustering.specs.Chain.{chain_plan}
 use Rattle.clustering.proofs.files.FileAnswers.{one_answer}
-use Rattle.cluster_laws.specs.ClusterRuns.{chain_operator}
-use Rattle.cluster_laws.proofs.RunLaws.{merge_mutual, end_in_one}
 use Rattle.run_commands.specs.declared.run_faults.TableFault.{TableFault}
 use Rattle.run_commands.specs.declared.run_faults.TableFault.TheVariants.{Line, Pair}
 use Rattle.run_commands.specs.RunTables.{IsRunTable}
-use Rattle.run_commands.specs.commands.Cluster.{cluster_command, cluster_loop, AreChosen, AreRunTables, AreBadConditions, IsConditionsFault, AreOfFile, both_tables}
+use Rattle.loop_runs.specs.PointsLoop.{both_tables}
+use Rattle.run_commands.specs.commands.Cluster.{cluster_command, AreChosen, AreRunTables, AreBadConditions, IsConditionsFault}
 use Rattle.run_commands.proofs.meanings.ClusterTables.{no_fault_in}
 use Rattle.run_commands.proofs.meanings.ConditionTexts.{for_others, has_points, has_cells, not_both}
 use Rattle.run_commands.proofs.meanings.LoopLaws.{LoopLaws}
-use Rattle.run_commands.proofs.meanings.LoopRooms.{IsWholeLoopRun}
 use Rattle.run_commands.proofs.meanings.RunTables as tables
-
--- ---- the tables
 
 Same : RowMap → RowMap → RowMap → RowMap → Type 0
 Same p c q d = (p ≡ q) × (c ≡ d)
@@ -90,19 +79,3 @@ cluster_laws = record {
   line_is_told = λ bytes line m. m.from_one;
   limit_is_told = limit_by;
 }
-
--- ---- the runs
-
--- the operator in code is that of the points
-pub same_chain : (count : ℕ) (plan : Item → Plan) → plan ≡ chain_plan count → ◌≡◌ {A = Operator} (record { ordered = false; rooms = rooms; plan = plan }) (chain_operator count)
-same_chain count plan e = ap (λ (p : Item → Plan). record { ordered = false; rooms = rooms; plan = p }) e
-
-few_by : (n : ℕ) → n ≡ 2 → n + 1 < 2 ^ 32
-few_by n e = omega arith
-
-pub few_rooms : rooms + 1 < 2 ^ 32
-few_rooms = few_by rooms refl
-
--- what a whole run comes to
-pub run_comes_to : (spots : List Spot) → AreOfFile spots → (commits : List WholeCommit) (after : ℕ → State) → IsWholeLoopRun (cluster_loop spots) commits after → (cluster_loop spots).comes_to commits after
-run_comes_to spots file commits after run = (merge_mutual spots commits _ run, λ some. end_in_one file.bytes spots commits after file.is_readable some run)

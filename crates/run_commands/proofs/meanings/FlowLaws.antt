@@ -1,17 +1,14 @@
--- What is shown of `flow`, and of the runs of networks.
-use Rattle.std.proofs.Common.{◌≡◌, false, inl, inr, ℕ, ◌+◌, ◌^◌, ◌<◌, refl, sym, ap, ◌∙◌, arith}
+-- What is shown of `flow`.
+use Rattle.std.proofs.Common.{inl, inr, refl, sym, ap, ◌∙◌}
 use Rattle.gx_base.specs.declared.inputs.What.{What}
 use Rattle.gx_base.specs.declared.inputs.What.TheVariants.{File, Nodes, Arcs, Points, Nets, Horizon, Size}
-use Rattle.gx_base.specs.declared.items.Item.{Item}
 use Rattle.gx_base.specs.declared.kinds.Kind.TheVariants.{Flow}
-use Rattle.gx_base.specs.Plans.{Plan, Operator}
 use Rattle.kind_tables.specs.TablesOfKinds.{tables_of}
-use Rattle.preflow_push.specs.Discharge.{discharge_operator, discharge_plan}
-use Rattle.preflow_push.specs.FlowCalls.{rooms}
 use Rattle.preflow_push.specs.FlowLimits.{Passes}
 use Rattle.preflow_push.specs.Networks.{Net}
 use Rattle.preflow_push.proofs.CallerLemmas.{one_answer}
-use Rattle.run_commands.specs.commands.Flow.{flow_command, shard_tables, IsNetworkLimit}
+use Rattle.loop_runs.specs.NetworkLoop.{shard_tables}
+use Rattle.run_commands.specs.commands.Flow.{flow_command, IsNetworkLimit}
 use Rattle.run_commands.proofs.meanings.LoopLaws.{LoopLaws}
 use Rattle.run_commands.proofs.meanings.RunTables as tables
 
@@ -33,13 +30,3 @@ flow_laws = record {
   line_is_told = λ bytes line m. m.from_one;
   limit_is_told = λ bytes what l. passed_limit l.net what l.passes;
 }
-
--- the operator in code is the network's
-pub same_operator : (net : Net) (plan : Item → Plan) → plan ≡ discharge_plan net → ◌≡◌ {A = Operator} (record { ordered = false; rooms = rooms; plan = plan }) (discharge_operator net)
-same_operator net plan e = ap (λ (p : Item → Plan). record { ordered = false; rooms = rooms; plan = p }) e
-
-few_by : (n : ℕ) → n ≡ 16 → n + 1 < 2 ^ 32
-few_by n e = omega arith
-
-pub few_rooms : rooms + 1 < 2 ^ 32
-few_rooms = few_by rooms refl

@@ -11,10 +11,14 @@ use Rattle.run_commands.specs.declared.run_faults.RunFault.TheVariants.{BadTable
 use Rattle.run_commands.specs.Inputs.{Inputs, main_of}
 use Rattle.speculation.specs.Limits.{Limit}
 use Rattle.speculation.specs.Limits as limits
+use Rattle.sessions.specs.declared.events.Stop.{Stop}
+use Rattle.sessions.specs.declared.events.Stop.TheVariants as stops
+use Rattle.iterate.specs.Plays.{stop_of}
 use Rattle.run_words.specs.declared.options.RunOptions.{RunOptions}
-use Rattle.run_commands.specs.LoopRuns.{GateTables, IsReportOf}
+use Rattle.loop_runs.specs.GateTables.{GateTables}
+use Rattle.loop_runs.specs.LoopRuns.{IsReportOf}
 use Rattle.run_commands.specs.LoopCommands.{LoopCommand, AreAccepted, UnderTables, IsReportOn, IsPastOn, loop_meaning}
-use Rattle.run_commands.specs.RunFaults.{fault_of_input, fault_of_limit, FaultsWhere, FaultAnswers}
+use Rattle.run_commands.specs.RunFaults.{fault_of_input, fault_of_limit, fault_of_stop, FaultsWhere, FaultAnswers}
 use Rattle.run_commands.proofs.meanings.LoopLaws.{LoopLaws, read_or_faulty, read_or_large, faulty_or_large, same_line, same_what}
 use Rattle.run_commands.proofs.meanings.LoopLimits.{RunsPast, one_limit, ends_or_passes}
 
@@ -126,6 +130,17 @@ under_tables command options conditions tables bytes (Err fault) are report = tt
 pub not_refused : (command : LoopCommand) (laws : LoopLaws command) (choice : Choice) (conditions : Option (List ℕ)) (tables : GateTables) (made : Made) (why : TableFault) → command.are_tables choice conditions tables
     → (made ≡ Err (BadTable why) → ⊥) → FaultsWhere (command.is_bad_table conditions why) (BadTable why) made
 not_refused command laws choice conditions tables made why are never = record { only = λ e. absurd (never e); always = λ bad. absurd (laws.accepted choice conditions tables are why bad) }
+
+-- ---- from the run
+
+-- the fault of a stop tells the limit
+pub limit_told : (stop : Stop) (passed : Limit) → fault_of_stop stop ≡ fault_of_limit passed → stop ≡ stop_of passed
+limit_told stops.Spent limits.Spent e = refl
+limit_told stops.Spent limits.Kept e = absurd (cc)
+limit_told stops.Kept limits.Spent e = absurd (cc)
+limit_told stops.Kept limits.Kept e = refl
+limit_told stops.NoMemory limits.Spent e = absurd (cc)
+limit_told stops.NoMemory limits.Kept e = absurd (cc)
 
 -- ---- from the reader
 

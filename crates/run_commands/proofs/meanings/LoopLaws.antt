@@ -5,7 +5,7 @@ use Rattle.gx_base.specs.declared.inputs.InputFault.{InputFault}
 use Rattle.gx_base.specs.declared.inputs.InputFault.TheVariants.{Line, Large}
 use Rattle.gx_base.specs.declared.kinds.Choice.{Choice}
 use Rattle.run_commands.specs.declared.run_faults.TableFault.{TableFault}
-use Rattle.run_commands.specs.LoopRuns.{GateTables}
+use Rattle.loop_runs.specs.GateTables.{GateTables}
 use Rattle.run_commands.specs.LoopCommands.{LoopCommand, AreAccepted}
 
 pub record LoopLaws (command : LoopCommand) : Type 0 where

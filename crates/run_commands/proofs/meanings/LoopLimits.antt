@@ -1,28 +1,12 @@
--- A loop's run ends within the limits, or passes one limit first.
-use Rattle.std.proofs.Common.{◌≡◌, ℕ, List, Option, Some, None, Ok, sym, ap, subst, ◌∙◌}
+-- The run of what a file holds ends within the limits, or passes one limit first.
+use Rattle.std.proofs.Common.{◌≡◌, ℕ, List, Option, Some, None, Ok, sym, subst, ◌∙◌}
 use Rattle.speculation.specs.Limits.{Limit}
-use Rattle.speculation.specs.ScheduledRuns.{is_empty, Run}
-use Rattle.schedules.specs.Draws.{scheduled_turns}
 use Rattle.run_words.specs.declared.options.RunOptions.{RunOptions}
-use Rattle.run_commands.specs.LoopRuns.{Loop, GateTables, loop_machine, IsLoopRun, IsRunPast}
+use Rattle.loop_runs.specs.GateTables.{GateTables}
+use Rattle.loop_runs.specs.LoopRuns.{IsRunPast}
 use Rattle.run_commands.specs.LoopCommands.{LoopCommand, UnderTables, IsReportOn, IsPastOn, IsWithinOn}
-use Rattle.run_commands.proofs.meanings.LimitedRuns.{once, never}
+use Rattle.loop_runs.proofs.CallerLemmas.{same_limit, ended}
 use Rattle.run_commands.proofs.meanings.LoopLaws.{LoopLaws, one_input}
-
-module _ (options : RunOptions) (tables : GateTables) (loop : Loop) where
-  abbrev turns_for : List ℕ
-  turns_for = scheduled_turns options.seed options.workers options.turns
-
-  -- two looks at the run
-  same_limit : (a b : Limit) → IsRunPast options tables loop a → IsRunPast options tables loop b → a ≡ b
-  same_limit a b p q = once loop.operator (loop_machine loop tables) options.workers turns_for p.turns q.turns a b p.passes q.passes
-
-  ended : (run : Run) (a : Limit) → IsLoopRun options tables loop run → IsRunPast options tables loop a → ⊥
-  ended run a r p =
-      never loop.operator (loop_machine loop tables) options.workers turns_for r.turns p.turns a r.unlimited
-      (ap (λ (x : Run). is_empty x.machine.book.ready) (sym r.is_run) ∙ ap is_empty r.ends) p.passes
-
--- ---- of a file
 
 module _ (command : LoopCommand) (laws : LoopLaws command) (options : RunOptions) (conditions : Option (List ℕ)) (bytes : List ℕ) where
   abbrev pub RunsPast : Limit → Type 0

@@ -18,7 +18,8 @@ use Rattle.run_commands.specs.declared.run_faults.RunFault.TheVariants.{BadTable
 use Rattle.run_commands.specs.declared.run_faults.TableFault.{TableFault}
 use Rattle.run_commands.specs.declared.run_faults.TableFault.TheVariants.{Line, Pair}
 use Rattle.run_commands.specs.RunFaults.{FaultsWhere, fault_of_table}
-use Rattle.run_commands.specs.RunTables.{IsWholeTable, ServesGates, IsRunTable, IsBadTable, IsTableFault}
+use Rattle.loop_runs.specs.GateTables.{ServesGates}
+use Rattle.run_commands.specs.RunTables.{IsWholeTable, IsRunTable, IsBadTable, IsTableFault}
 use Rattle.run_commands.proofs.gate_tables.TableGets.{one_whole, row_of_whole}
 
 module _ (kind : Kind) (tables : KindTables) where

@@ -1,50 +1,25 @@
 -- What `cluster` runs, and on which files.
-use Rattle.std.specs.Prelude.{◌≡◌, ◌⊎◌, ℕ, ◌<◌, ◌==◌, if◌then◌else◌, Option, Some, None, List, [], ◌∷◌, length}
+use Rattle.std.specs.Prelude.{◌≡◌, ◌⊎◌, ℕ, Option, Some, None, List, [], ◌∷◌}
 use Rattle.gx_base.specs.declared.calls.Spot.{Spot}
 use Rattle.gx_base.specs.declared.inputs.What.TheVariants as what
 use Rattle.gx_base.specs.declared.kinds.Kind.{Kind}
 use Rattle.gx_base.specs.declared.kinds.Kind.TheVariants.{Points, Cells}
 use Rattle.gx_base.specs.declared.kinds.Choice.{Choice}
 use Rattle.gx_base.specs.declared.kinds.Choice.TheVariants.{Precise}
-use Rattle.gx_base.specs.Kinds.{kind_number}
-use Rattle.gx_base.specs.Outcomes.{order_of}
 use Rattle.gx_base.specs.TableRows.{RowMap}
 use Rattle.cond_syntax.specs.TableTexts.{Fault, IsTableText, IsFirstFault}
 use Rattle.table_choice.specs.RunTables.{IsAbove}
 use Rattle.shared_sets.specs.CellsTables.{cells_tables}
 use Rattle.kd_points.specs.PointTables.{point_tables}
-use Rattle.clustering.specs.PointFiles.{CallsFor, IsReadable}
-use Rattle.clustering.specs.Starts.{start_states, start_ready}
-use Rattle.clustering.specs.ClusterReports.{cluster_report}
-use Rattle.cluster_laws.specs.ClusterRuns.{chain_operator, MergesMutualPairs, EndsInOne}
-use Rattle.run_commands.specs.declared.cloud_tables.CloudTables.{CloudTables}
+use Rattle.clustering.specs.PointFiles.{CallsFor}
 use Rattle.run_words.specs.declared.options.RunOptions.{RunOptions}
 use Rattle.run_commands.specs.declared.run_faults.TableFault.{TableFault}
 use Rattle.run_commands.specs.declared.run_faults.TableFault.TheVariants.{Line, Pair}
 use Rattle.run_commands.specs.CommandMeaning.{CommandMeaning}
-use Rattle.run_commands.specs.LoopRuns.{Loop, GateTables}
+use Rattle.loop_runs.specs.GateTables.{GateTables}
+use Rattle.loop_runs.specs.PointsLoop.{both_tables, cluster_loop}
 use Rattle.run_commands.specs.LoopCommands.{LoopCommand, loop_meaning}
 use Rattle.run_commands.specs.RunTables.{IsRunTable, IsTableFault}
-
--- The work on the points of a file. Two points that become one were each other's nearest, and where there is a point, one is left,
--- whose weight is the number of the points.
-abbrev pub cluster_loop : List Spot → Loop
-cluster_loop spots = record {
-  operator = chain_operator (length spots);
-  states = start_states spots;
-  ready = start_ready spots;
-  report = cluster_report (length spots);
-  comes_to = λ commits after. MergesMutualPairs spots commits × (0 < length spots → EndsInOne (length spots) (order_of commits) after);
-}
-
--- the points are those of a file, which may be read
-pub record AreOfFile (spots : List Spot) : Type 0 where
-  pub bytes : List ℕ
-  pub is_readable : IsReadable bytes spots
-
--- gates are over points, or over cells
-abbrev pub both_tables : RowMap → RowMap → GateTables
-both_tables points cells kind = if kind == kind_number Points then points else cells
 
 -- ---- the tables of a run
 
@@ -108,8 +83,3 @@ cluster_command = record {
 
 abbrev pub cluster_meaning : RunOptions → CommandMeaning
 cluster_meaning options = loop_meaning cluster_command options
-
--- ---- as code keeps the tables
-
-abbrev pub tables_in : CloudTables → GateTables
-tables_in tables = both_tables tables.points tables.cells

@@ -1,5 +1,5 @@
 -- What `flow` runs, and on which files.
-use Rattle.std.specs.Prelude.{◌≡◌, ◌⊎◌, ℕ, Option, List, ⊤}
+use Rattle.std.specs.Prelude.{◌≡◌, ◌⊎◌, ℕ, Option, List}
 use Rattle.gx_base.specs.declared.inputs.What.{What}
 use Rattle.gx_base.specs.declared.inputs.What.TheVariants.{Nodes, Arcs}
 use Rattle.gx_base.specs.declared.kinds.Kind.TheVariants.{Flow}
@@ -8,30 +8,14 @@ use Rattle.gx_base.specs.TableRows.{RowMap}
 use Rattle.kind_tables.specs.TablesOfKinds.{tables_of}
 use Rattle.preflow_push.specs.Networks.{Net}
 use Rattle.preflow_push.specs.FlowLimits.{CallsFor}
-use Rattle.preflow_push.specs.Discharge.{discharge_operator}
-use Rattle.preflow_push.specs.Starts.{start_states, start_ready}
-use Rattle.preflow_push.specs.FlowReports.{flow_report}
 use Rattle.run_words.specs.declared.options.RunOptions.{RunOptions}
 use Rattle.run_commands.specs.CommandMeaning.{CommandMeaning}
-use Rattle.run_commands.specs.LoopRuns.{Loop, GateTables}
+use Rattle.loop_runs.specs.GateTables.{GateTables}
+use Rattle.loop_runs.specs.NetworkLoop.{network_loop, shard_tables}
 use Rattle.run_commands.specs.LoopCommands.{LoopCommand, loop_meaning}
 use Rattle.run_commands.specs.RunTables.{IsRunTable, IsBadTable, IsTableFault}
 
--- the work on the nodes of a network
-abbrev pub network_loop : Net → Loop
-network_loop net = record {
-  operator = discharge_operator net;
-  states = start_states net;
-  ready = start_ready net;
-  report = flow_report net;
-  comes_to = λ commits after. ⊤;
-}
-
--- all gates are over flow shards
-abbrev pub shard_tables : RowMap → GateTables
-shard_tables table kind = table
-
--- they have the table of the run
+-- gates have the table of the run
 pub record AreFlowTables (choice : Choice) (conditions : Option (List ℕ)) (tables : GateTables) : Type 0 where
   pub table : RowMap
   pub is_table : IsRunTable Flow (tables_of Flow) choice conditions table

@@ -8,19 +8,20 @@ ghost use Rattle.clustering.specs.PointFiles.{CallsFor};
 ghost use Rattle.speculation.specs.Limits.{Limit};
 ghost use Rattle.run_commands.specs.Inputs.{inputs_in};
 ghost use Rattle.run_commands.specs.LoopCommands.{AreAccepted, UnderTables, IsReportOn, IsPastOn};
-ghost use Rattle.run_commands.specs.LoopRuns.{IsReportOf, IsRunPast};
+ghost use Rattle.loop_runs.specs.LoopRuns.{IsReportOf, IsRunPast};
 ghost use Rattle.run_commands.specs.RunFaults.{FaultAnswers, FaultsWhere, fault_of_limit};
-ghost use Rattle.run_commands.specs.RunTables.{ServesGates};
-ghost use Rattle.run_commands.specs.commands.Cluster.{AreBadConditions, AreOfFile, cluster_command, cluster_loop, cluster_meaning, tables_in};
+ghost use Rattle.loop_runs.specs.GateTables.{ServesGates};
+ghost use Rattle.loop_runs.specs.PointsLoop.{AreOfFile, cluster_loop, tables_in};
+ghost use Rattle.run_commands.specs.commands.Cluster.{AreBadConditions, cluster_command, cluster_meaning};
 ghost use Rattle.run_commands.specs.declared.run_faults.TableFault.{TableFault};
 ghost use Rattle.run_commands.specs.declared.run_faults.RunFault.TheVariants as faults;
 
-use crate::cloud_runs::{report_points, run_points};
-use crate::cloud_tables::{CloudTables, cloud_tables};
+use crate::cloud_tables::cloud_tables;
 use crate::inputs::InputFiles;
 use crate::run_faults::RunFault;
 use clustering::read_points;
 use gx_base::Spot;
+use loop_runs::{CloudTables, report_points, run_points};
 use run_words::RunOptions;
 use std::alloc::Global;
 
@@ -97,6 +98,6 @@ fn points_text(
 {
     match run_points(alloc, options, tables, spots) {
         Ok(played) => Ok(report_points(alloc, options, tables, spots, played)?),
-        Err(fault) => Err(fault),
+        Err(stop) => Err(RunFault::from(stop)),
     }
 }

@@ -9,21 +9,23 @@ ghost use Rattle.preflow_push.specs.Networks.{view};
 ghost use Rattle.speculation.specs.Limits.{Limit};
 ghost use Rattle.run_commands.specs.Inputs.{inputs_in};
 ghost use Rattle.run_commands.specs.LoopCommands.{AreAccepted, UnderTables, IsReportOn, IsPastOn};
-ghost use Rattle.run_commands.specs.LoopRuns.{IsReportOf, IsRunPast};
+ghost use Rattle.loop_runs.specs.LoopRuns.{IsReportOf, IsRunPast};
 ghost use Rattle.run_commands.specs.RunFaults.{FaultAnswers, FaultsWhere, fault_of_limit};
-ghost use Rattle.run_commands.specs.RunTables.{ServesGates, IsRunTable, IsBadTable, TellsTable};
-ghost use Rattle.run_commands.specs.commands.Flow.{flow_command, flow_meaning, network_loop, shard_tables};
+ghost use Rattle.loop_runs.specs.GateTables.{ServesGates};
+ghost use Rattle.run_commands.specs.RunTables.{IsRunTable, IsBadTable, TellsTable};
+ghost use Rattle.loop_runs.specs.NetworkLoop.{network_loop, shard_tables};
+ghost use Rattle.run_commands.specs.commands.Flow.{flow_command, flow_meaning};
 ghost use Rattle.kind_tables.specs.TablesOfKinds.{tables_of};
 ghost use Rattle.run_commands.specs.declared.run_faults.TableFault.{TableFault};
 ghost use Rattle.run_commands.specs.declared.run_faults.RunFault.TheVariants as faults;
 
 use crate::inputs::InputFiles;
-use crate::network_runs::{report_played, run_network};
 use crate::run_faults::RunFault;
 use crate::run_tables::run_table;
 use flow_graph::FlowShard;
 use gx_base::{Choice, Kind, Table};
 use kind_tables::laws::only_precise_domains_are_general;
+use loop_runs::{report_network, run_network};
 use preflow_push::{Network, read_max};
 use run_words::RunOptions;
 use std::alloc::Global;
@@ -108,7 +110,7 @@ fn network_text(
     ensures accepted { (why : TableFault) → result ≡ Err (faults.BadTable why) → ⊥ }
 {
     match run_network(alloc, options, table, net) {
-        Ok(played) => Ok(report_played(alloc, options, table, net, played)?),
-        Err(fault) => Err(fault),
+        Ok(played) => Ok(report_network(alloc, options, table, net, played)?),
+        Err(stop) => Err(RunFault::from(stop)),
     }
 }

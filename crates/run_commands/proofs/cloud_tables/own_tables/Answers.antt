@@ -1,10 +1,10 @@
 use Rattle.std.proofs.Common.{◌≡◌, inl, inr, None, Some, subst}
 use Rattle.gx_base.specs.declared.kinds.Choice.TheVariants.{Precise}
 use Rattle.gx_base.specs.declared.kinds.Kind.TheVariants.{Cells}
-use Rattle.run_commands.specs.declared.cloud_tables.CloudTables.{CloudTables}
+use Rattle.loop_runs.specs.declared.cloud_runs.CloudTables.{CloudTables}
 use Rattle.run_commands.specs.commands.Cluster.{AreRunTables, AreChosen, IsTextOf}
 use Rattle.run_commands.proofs.meanings.ClusterTables.{of_points, of_cells, not_read}
-use Rattle.run_commands.proofs.meanings.LoopPlays.{of_answer}
+use Rattle.loop_runs.proofs.CallerLemmas.{of_answer}
 use Rattle.run_commands.proofs.cloud_tables.own_tables.Goals as goal
 
 pub returns-in-Points-clause-bad_table : goal.returns-in-Points-clause-bad_table

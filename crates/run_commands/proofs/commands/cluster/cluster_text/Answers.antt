@@ -1,5 +1,6 @@
 use Rattle.std.proofs.Common.{refl}
-use Rattle.run_commands.specs.commands.Cluster.{cluster_command, tables_in}
+use Rattle.loop_runs.specs.PointsLoop.{tables_in}
+use Rattle.run_commands.specs.commands.Cluster.{cluster_command}
 use Rattle.run_commands.proofs.meanings.ClusterLaws.{cluster_laws}
 use Rattle.run_commands.proofs.meanings.LoopAnswers.{under_tables, not_refused}
 use Rattle.run_commands.proofs.commands.cluster.cluster_text.Goals as goal

@@ -1,7 +1,8 @@
 use Rattle.std.specs.Prelude.{refl}
 use Rattle.std.proofs.Common.{sym, subst}
 use Rattle.clustering.specs.PointFiles.{IsReadable, answer_of}
-use Rattle.run_commands.specs.commands.Cluster.{cluster_command, tables_in}
+use Rattle.loop_runs.specs.PointsLoop.{tables_in}
+use Rattle.run_commands.specs.commands.Cluster.{cluster_command}
 use Rattle.run_commands.proofs.meanings.LoopAnswers.{is_read, is_refused, is_reported, is_faulty, is_large, not_past, no_table}
 use Rattle.run_commands.proofs.commands.cluster.file_text.Goals as goal
 

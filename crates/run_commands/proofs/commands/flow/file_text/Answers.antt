@@ -1,7 +1,8 @@
 use Rattle.std.specs.Prelude.{refl}
 use Rattle.preflow_push.specs.FlowLimits.{answer_of}
 use Rattle.preflow_push.specs.Networks.{view}
-use Rattle.run_commands.specs.commands.Flow.{flow_command, shard_tables}
+use Rattle.loop_runs.specs.NetworkLoop.{shard_tables}
+use Rattle.run_commands.specs.commands.Flow.{flow_command}
 use Rattle.run_commands.proofs.meanings.LoopAnswers.{is_read, is_refused, is_reported, is_faulty, is_large, not_past, no_table}
 use Rattle.run_commands.proofs.commands.flow.file_text.Goals as goal
 

@@ -1,5 +1,6 @@
 use Rattle.std.proofs.Common.{refl}
-use Rattle.run_commands.specs.commands.Flow.{flow_command, shard_tables}
+use Rattle.loop_runs.specs.NetworkLoop.{shard_tables}
+use Rattle.run_commands.specs.commands.Flow.{flow_command}
 use Rattle.run_commands.proofs.meanings.FlowLaws.{flow_laws}
 use Rattle.run_commands.proofs.meanings.LoopAnswers.{under_tables, not_refused}
 use Rattle.run_commands.proofs.commands.flow.flow_text.Goals as goal

@@ -1,0 +1,5 @@
+pub mod GateTables
+pub mod LoopRuns
+pub mod LoopRooms
+pub mod NetworkLoop
+pub mod PointsLoop
