@@ -36,16 +36,34 @@ const KINDS: [Kind; 5] = [
     Kind::Domains,
 ];
 
-/// The number of the first method of a kind, which the kind's others follow one after another.
+/// The first method of sets. A kind's other methods follow its first one after another.
+pub const SET_METHODS: u32 = 0;
+
+/// The first method of cells.
+pub const CELLS_METHODS: u32 = 8;
+
+/// The first method of flow shards.
+pub const FLOW_METHODS: u32 = 16;
+
+/// The first method of points.
+pub const POINT_METHODS: u32 = 32;
+
+/// The first method of domain books.
+pub const DOMAIN_METHODS: u32 = 48;
+
+/// No kind has more methods.
+pub const MOST_METHODS: u32 = 8;
+
+/// The number of the first method of a kind.
 fn first_method(kind: Kind) -> u32
     ensures { result ≡ methods.first_method (kind_number kind) }
 {
     match kind {
-        Kind::Set => 0,
-        Kind::Cells => 8,
-        Kind::Flow => 16,
-        Kind::Points => 32,
-        Kind::Domains => 48,
+        Kind::Set => SET_METHODS,
+        Kind::Cells => CELLS_METHODS,
+        Kind::Flow => FLOW_METHODS,
+        Kind::Points => POINT_METHODS,
+        Kind::Domains => DOMAIN_METHODS,
     }
 }
 

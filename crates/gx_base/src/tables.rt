@@ -5,6 +5,7 @@ ghost use Rattle.gx_base.specs.Conditions.{condition_of};
 ghost use Rattle.gx_base.specs.RowLists.{is_row_of, table_row_of, table_rows_of, buckets_of, bucket_number, table_rows_in, row_map_of, AreBuckets, IsRowPut, AgreeOn};
 
 use crate::conditions::Cond;
+use crate::kinds::MOST_METHODS;
 use crate::memory::NoMemory;
 use std::alloc::Global;
 use std::marker::Model;
@@ -46,7 +47,7 @@ impl Model for Table {
 fn bucket_at(first: u32, second: u32) -> usize
     ensures { result ≡ bucket_number (first, second) }
 {
-    (first % 8) as usize * 8 + (second % 8) as usize
+    (first % MOST_METHODS) as usize * MOST_METHODS as usize + (second % MOST_METHODS) as usize
 }
 
 /// The place of the row of two methods.

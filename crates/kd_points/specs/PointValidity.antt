@@ -6,6 +6,8 @@ use Rattle.std.specs.Ordering.{int_eq}
 use Rattle.gx_base.specs.declared.calls.Call.{Call}
 use Rattle.gx_base.specs.declared.calls.Spot.{Spot}
 use Rattle.gx_base.specs.declared.calls.Seen.{Seen}
+use Rattle.gx_base.specs.declared.kinds.Kind.TheVariants.{Points}
+use Rattle.gx_base.specs.Kinds.{kind_number}
 use Rattle.gx_base.specs.Conditions.{holds}
 use Rattle.gx_base.specs.States.{State, row_at, with_row}
 use Rattle.gx_base.proofs.CallerLemmas.{row_at-same, written_back, same_content-is, IsBelow-itself, False-IsBelow, point_deed-foreign}
@@ -255,11 +257,11 @@ readers_below_point Nearest Nearest = IsBelow-itself _
 readers_below_point Nearest Nothing = False-IsBelow _
 readers_below_point Nothing e = False-IsBelow _
 
-pub point_facts : TableFacts 3 point_tables
+pub point_facts : TableFacts (kind_number Points) point_tables
 point_facts = record {
-  valid = valid_from 3 point_tables.precise point_table;
-  keeps_to_kind = keeps 3 Nothing point_deed point_deed-foreign precise_point point_none;
+  valid = valid_from (kind_number Points) point_tables.precise point_table;
+  keeps_to_kind = keeps (kind_number Points) Nothing point_deed point_deed-foreign precise_point point_none;
   strengthened = λ first second. point_strengthened (point_deed first) (point_deed second);
   readers_below = λ first second. readers_below_point (point_deed first) (point_deed second);
-  readers_keep_to_kind = keeps 3 Nothing point_deed point_deed-foreign reader_writer_point reader_writer_none;
+  readers_keep_to_kind = keeps (kind_number Points) Nothing point_deed point_deed-foreign reader_writer_point reader_writer_none;
 }

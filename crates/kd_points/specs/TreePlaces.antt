@@ -5,6 +5,8 @@ use Rattle.std.proofs.Common.{sym, subst}
 use Rattle.std.specs.Cmp.{signed_Decides}
 use Rattle.std.specs.FinMap as map
 use Rattle.std.specs.Ordering.{int_eq}
+use Rattle.gx_base.specs.declared.kinds.Kind.TheVariants.{Points}
+use Rattle.gx_base.specs.Kinds.{kind_number}
 use Rattle.gx_base.specs.PointKind.{IsPlace, HoldsPlaces}
 use Rattle.gx_base.specs.States.{State, row_cmp}
 use Rattle.gx_base.proofs.CallerLemmas.{same_row, same_row-is, row_at-with}
@@ -41,7 +43,7 @@ put-IsPlace key at false row old e h k = k
 rows-IsPlace : (look : Nodes) → AllFit look → (es : List (ℤ × ℕ)) (key : ℕ × ℤ) → IsPlace key (map.get (tree_rows look es) key)
 rows-IsPlace look h [] key = subst (IsPlace key) (sym (map.get-empty row_cmp key)) tt
 rows-IsPlace look h (e ∷ es) key =
-    let s : State = record { kind = 3; rows = tree_rows look es } in
+    let s : State = record { kind = kind_number Points; rows = tree_rows look es } in
     subst (IsPlace key) (sym (row_at-with s (0, e.0) (row_of_node e.0 (look e.1)) key))
     (put-IsPlace key (0, e.0) (same_row key (0, e.0)) (row_of_node e.0 (look e.1)) (map.get (tree_rows look es) key) (same_row-is key (0, e.0)) (row-IsPlace look h e.0 e.1) (rows-IsPlace look h es key))
 
