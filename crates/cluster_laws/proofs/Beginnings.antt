@@ -206,7 +206,7 @@ begins_so places spots are =
     subst (λ (n : ℕ). HoldsBetween n (start_states spots) (with_items [] (start_ready spots))) (sym (ap (λ (l : List Spot). length l) are ∙ length-numbered 0 places)) (begins_with places spots are)
 
 -- whatever the points are, their room has points
-pub start-are_points : (spots : List Spot) → (start_states spots 0).kind ≡ 3
+pub start-are_points : (spots : List Spot) → ArePoints (start_states spots 0)
 start-are_points spots = kind_fold spots no_points
   where
     kind_fold : (l : List Spot) (s : State) → (fold added s l).kind ≡ s.kind

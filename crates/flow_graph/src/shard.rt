@@ -2,6 +2,7 @@ ghost use Rattle.std.specs.Prelude.{◌≡◌, ℕ, IsTrue, IsOk, IfOk, OnOk, On
 ghost use Rattle.std.specs.FinMap as map;
 ghost use Rattle.gx_base.specs.declared.calls.Made.{Made};
 ghost use Rattle.gx_base.specs.declared.kinds.Kind.TheVariants.{Flow};
+ghost use Rattle.gx_base.specs.FlowKind.{height_sort, excess_sort, flow_sort};
 ghost use Rattle.gx_base.specs.Kinds.{kind_number};
 ghost use Rattle.gx_base.specs.ShippedTables.{IsShipped};
 ghost use Rattle.gx_base.specs.States.{number_at, with_number};
@@ -38,21 +39,21 @@ impl FlowShard {
 
     /// The height of a node.
     pub fn height(&self, node: i64) -> i64
-        ensures { result ≡ number_at (state_of self.now) (0, node) }
+        ensures { result ≡ number_at (state_of self.now) (height_sort, node) }
     {
         self.value(Quantity::Height, node)
     }
 
     /// The excess of a node.
     pub fn excess(&self, node: i64) -> i64
-        ensures { result ≡ number_at (state_of self.now) (1, node) }
+        ensures { result ≡ number_at (state_of self.now) (excess_sort, node) }
     {
         self.value(Quantity::Excess, node)
     }
 
     /// The flow of an arc.
     pub fn flow(&self, arc: i64) -> i64
-        ensures { result ≡ number_at (state_of self.now) (2, arc) }
+        ensures { result ≡ number_at (state_of self.now) (flow_sort, arc) }
     {
         self.value(Quantity::Flow, arc)
     }

@@ -9,6 +9,8 @@ use Rattle.std.specs.declared.cmp.Ordering.{Ordering}
 use Rattle.std.specs.declared.cmp.Ordering.TheVariants.{Less, Equal, Greater}
 use Rattle.gx_base.specs.declared.acts.Entry.{Entry}
 use Rattle.gx_base.specs.declared.items.Item.{Item}
+use Rattle.gx_base.specs.declared.kinds.Kind.TheVariants.{Set}
+use Rattle.gx_base.specs.Kinds.{kind_number}
 use Rattle.gx_base.specs.Plans.{Operator}
 use Rattle.gx_base.specs.RoomViews.{is_book}
 use Rattle.gx_base.specs.SetKind.{IsMark}
@@ -66,7 +68,7 @@ in_order (x ∷ xs) h = (least_of_after x xs h.0, in_order xs h.1)
 no_rows : row_of map.empty ≡ false_rows
 no_rows = λ i first second. row_of-empty first second i
 
-none_valid : IsValid 0 false_rows
+none_valid : IsValid (kind_number Set) false_rows
 none_valid = record {
   swaps = λ s a b e h fa fb t. absurd (cc);
   sees_first = λ s a b e h fa fb t l. absurd (cc);
@@ -76,8 +78,8 @@ none_valid = record {
 pub no_gate_is_new : IsNewGate no_gate
 no_gate_is_new = record {
   lawful = record {
-    valid = subst (IsValid 0) (sym no_rows) none_valid;
-    keeps_to_kind = subst (KeepsToKind 0) (sym no_rows) (λ first second f. refl);
+    valid = subst (IsValid (kind_number Set)) (sym no_rows) none_valid;
+    keeps_to_kind = subst (KeepsToKind (kind_number Set)) (sym no_rows) (λ first second f. refl);
     stands = record { of_kind = refl; is_state = λ key. subst IsMark (sym (map.get-empty row_cmp key)) tt };
     done_calls = tt;
     live_calls = tt;

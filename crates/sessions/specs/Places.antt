@@ -4,6 +4,8 @@ use Rattle.std.specs.FinMap as map
 use Rattle.gx_base.specs.declared.acts.Entry.{Entry}
 use Rattle.gx_base.specs.declared.acts.Step.{Step}
 use Rattle.gx_base.specs.declared.items.Item.{Item}
+use Rattle.gx_base.specs.declared.kinds.Kind.TheVariants.{Set}
+use Rattle.gx_base.specs.Kinds.{kind_number}
 use Rattle.gx_base.specs.BodyRuns.{RunsTo}
 use Rattle.gx_base.specs.Outcomes.{WholeCommit}
 use Rattle.gx_base.specs.Plans.{Operator, Done}
@@ -23,7 +25,7 @@ use Rattle.sessions.specs.SessionViews.{OpenCommit, SessionView}
 
 -- a gate without entries, over an empty set, with a table in which each two calls are in conflict
 abbrev pub no_gate : GateView
-no_gate = record { kind = 0; table = map.empty; state = no_state; done = []; live = []; mark = 0 }
+no_gate = record { kind = kind_number Set; table = map.empty; state = no_state; done = []; live = []; mark = 0 }
 
 abbrev pub gate_of : {T S : Type 0} → Value T S → GateView
 gate_of (Object gate) = gate
