@@ -9,7 +9,7 @@ ghost use Rattle.gx_base.specs.States.{number_at, with_number};
 ghost use Rattle.gx_base.specs.Meanings.{number_reply as reply_of};
 ghost use Rattle.kind_tables.specs.TablesOfKinds.{tables_of};
 ghost use Rattle.flow_graph.specs.Uses.{sort_of};
-ghost use Rattle.flow_graph.specs.FlowState.{state_of, has_row_in, has_room_in, IsUnwritten, IsLeanIn, IsLeanShard, dead_in};
+ghost use Rattle.flow_graph.specs.FlowState.{state_of, has_row_in, has_room_in, IsUnwritten, IsLeanIn, IsLeanShard, dead_of_sort};
 
 use crate::numbers::FlowNumbers;
 use crate::shipping::flow_table;
@@ -117,7 +117,7 @@ impl FlowShard {
     fn tidy_rows(&mut self)
         ensures state { state_of self.new ≡ state_of self.old }
         ensures lean { IsLeanShard self.new }
-        ensures dropped { (sort : ℕ) → ¬ (IsLeanIn self.old sort) → dead_in self.new sort ≡ 0 }
+        ensures dropped { (sort : ℕ) → ¬ (IsLeanIn self.old sort) → dead_of_sort self.new sort ≡ 0 }
         ensures idle { IsLeanShard self.old → self.new ≡ self.old }
     {
         match &mut self.numbers {
@@ -217,7 +217,7 @@ impl SeqType for FlowShard {
         ensures state { state_of self.new ≡ state_of self.old }
         ensures succeeds { IsOk result }
         ensures lean { IsLeanShard self.new }
-        ensures dropped { (sort : ℕ) → ¬ (IsLeanIn self.old sort) → dead_in self.new sort ≡ 0 }
+        ensures dropped { (sort : ℕ) → ¬ (IsLeanIn self.old sort) → dead_of_sort self.new sort ≡ 0 }
         ensures idle { IsLeanShard self.old → self.new ≡ self.old }
     {
         self.tidy_rows();

@@ -87,7 +87,7 @@ fn method_count(kind: Kind) -> u32
 }
 
 /// The first method among those from one number up to another that has this word.
-fn named(from: u32, end: u32, word: &str) -> Option<u32>
+fn first_with_word(from: u32, end: u32, word: &str) -> Option<u32>
     ensures { result ≡ find (λ method. bytes_eq (methods.word_of method) word.now) (range_with_len from (end - from)) }
 {
     (from..end).find(|method| word_of(*method) == word)
@@ -98,7 +98,7 @@ pub fn method_of(kind: Kind, word: &str) -> Option<u32>
     ensures { result ≡ methods.method_of (kind_number kind) word.now }
 {
     let first = first_method(kind);
-    named(first, first + method_count(kind), word)
+    first_with_word(first, first + method_count(kind), word)
 }
 
 /// The number of the method at a place, from 0, by rising number, and none past the last.

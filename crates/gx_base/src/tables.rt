@@ -51,7 +51,7 @@ fn bucket_at(first: u32, second: u32) -> usize
 }
 
 /// The place of the row of two methods.
-fn place_of(rows: &[Row], first: u32, second: u32) -> Option<usize>
+fn pair_index(rows: &[Row], first: u32, second: u32) -> Option<usize>
     ensures { result ≡ position_from (is_row_of first second) 0 rows.now }
 {
     rows.iter()
@@ -63,7 +63,7 @@ fn put_row(rows: &mut Vec<Row>, row: Row) -> Result<(), NoMemory>
     ensures ok { OnOk result (IsRowPut rows.old.items row rows.new.items) }
     ensures err { OnErr result (rows.new.items ≡ rows.old.items) }
 {
-    match place_of(rows, row.first, row.second) {
+    match pair_index(rows, row.first, row.second) {
         Some(place) => rows[place] = row,
         None => rows.push(row)?,
     }
@@ -189,7 +189,7 @@ impl Table {
         let number = bucket_at(first, second);
         if number < self.buckets.len() {
             let rows = &self.buckets[number];
-            if let Some(place) = place_of(rows, first, second) {
+            if let Some(place) = pair_index(rows, first, second) {
                 return &rows[place].cond;
             }
         }

@@ -30,7 +30,7 @@ use Rattle.speculation.specs.RunResults.{IsSerialInTheEnd}
 use Rattle.speculation.specs.ScheduledRuns.{is_empty, Run, played}
 use Rattle.speculation.specs.Sessions.{Session}
 use Rattle.speculation.proofs.Putting.{no_bool, same_number, numbers_equal}
-use Rattle.rooms.specs.RoomsViews.{RoomsView, is_held, entries_for}
+use Rattle.rooms.specs.RoomsViews.{RoomsView, is_room_held, entries_for}
 use Rattle.rooms.specs.Values.{tells}
 use Rattle.rooms.specs.Visits.{AreTold, everyone}
 use Rattle.rooms.specs.declared.values.Value.{Value}
@@ -152,7 +152,7 @@ module _ {T S : Type 0} (op : Operator) (a : RoomsView (Value T S)) (told : AreT
   told_log : (room worker : ℕ) (o : Option (Value T S)) → IsNewGateIn o → IfTold o (λ value. IsLogOf room (begun_view worker) (gate_of value).live)
   told_log room worker o h = subst (λ (x : Option (Value T S)). IfTold x (λ value. IsLogOf room (begun_view worker) (gate_of value).live)) (sym h.is_there) (no_log room worker h.gate.live h.no_live)
 
-  pub may_begin : a.acts_for ≡ everyone → ((room : ℕ) → is_held a room ≡ false) → (worker : ℕ) → MayTurn op a worker (begun_view worker)
+  pub may_begin : a.acts_for ≡ everyone → ((room : ℕ) → is_room_held a room ≡ false) → (worker : ℕ) → MayTurn op a worker (begun_view worker)
   may_begin acts free worker = record {
     worker_is = refl;
     closed = refl;
@@ -224,7 +224,7 @@ module _ {O St : Type 0} (rest : Rests St) where
     pub begun_is : (xs : List (CodeSession O St)) → AreBegun rest xs → machine_of a (sessions_of rest xs) ≡ begun_machine op.rooms a.told
     begun_is xs h = λ i. record { gates = λ room. gate_in (a.told room); book = book_in (a.told (book_last op a told new i)); sessions = λ worker. begun_sessions xs h worker i }
 
-    pub all_begin : (xs : List (CodeSession O St)) → AreBegun rest xs → a.acts_for ≡ everyone → ((room : ℕ) → is_held a room ≡ false) → MayAllTurn op a rest xs
+    pub all_begin : (xs : List (CodeSession O St)) → AreBegun rest xs → a.acts_for ≡ everyone → ((room : ℕ) → is_room_held a room ≡ false) → MayAllTurn op a rest xs
     all_begin xs h acts free = λ worker s e. subst (MayTurn op a worker) (sym (h worker s e)) (may_begin op a told new acts free worker)
 
   pub one_more_begun : (xs : List (CodeSession O St)) (x : CodeSession O St) → AreBegun rest xs → view_of rest x ≡ begun_view (length xs) → AreBegun rest (xs ++ x ∷ [])

@@ -19,13 +19,13 @@ use Rattle.kd_points.specs.TreeStates.{node_at, place, row_of_node, tree_rows, t
 abbrev pub AllFit : Nodes → Type 0
 AllFit look = (key : ℕ) (n : Node) → look key ≡ Some n → FitsSpot n.spot
 
-named : (b c : Bool) → (b && c) ≡ true → c ≡ true
-named true c e = e
-named false c e = absurd (cc)
+right_true : (b c : Bool) → (b && c) ≡ true → c ≡ true
+right_true true c e = e
+right_true false c e = absurd (cc)
 
 place_by : (id : ℤ) (n : Node) (b : Bool) → is_point_of id n ≡ b → FitsSpot n.spot → IsPlace (0, id) (if b then Some (place n.spot) else None)
 place_by id n true e f =
-    let id_fits = subst (λ y. FitsSpot (record n.spot { id = y })) ((signed_Decides n.spot.id id).0 (named n.live (int_eq n.spot.id id) e)) f in
+    let id_fits = subst (λ y. FitsSpot (record n.spot { id = y })) ((signed_Decides n.spot.id id).0 (right_true n.live (int_eq n.spot.id id) e)) f in
     (refl, id_fits.0, f.1, f.2, f.3)
 place_by id n false e f = tt
 

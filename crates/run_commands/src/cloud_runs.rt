@@ -28,7 +28,7 @@ use std::alloc::Global;
 use table_choice::AnyScreen;
 
 /// A gate over what a room has.
-fn gate_of(
+fn cloud_gate(
     alloc: Global,
     cloud: Cloud,
     tables: &CloudTables,
@@ -65,14 +65,14 @@ fn gates_of(
 {
     let mut values = Vec::new(alloc);
     for cloud in clouds {
-        let gate = gate_of(alloc, cloud, tables)?;
+        let gate = cloud_gate(alloc, cloud, tables)?;
         values.push(Value::Object(gate))?;
     }
     Ok(values)
 }
 
 /// The rooms of some points at the start: the gates, and then the book.
-fn values_of(
+fn cloud_values(
     alloc: Global,
     tables: &CloudTables,
     spots: &[Spot],
@@ -104,7 +104,7 @@ pub(crate) fn run_points(
     ensures small { (what : What) → result ≡ Err (faults.TooLarge what) → ⊥ }
     ensures accepted { (why : TableFault) → result ≡ Err (faults.BadTable why) → ⊥ }
 {
-    let values = values_of(alloc, tables, spots)?;
+    let values = cloud_values(alloc, tables, spots)?;
     let chain = Chain::new(spots.len() as u64);
     run_values(alloc, options, &chain, values)
 }

@@ -45,7 +45,7 @@ fn gates_of(
 }
 
 /// The rooms of a network at the start: the gates, and then the book.
-fn values_of(
+fn network_values(
     alloc: Global,
     table: &Table,
     net: &Network,
@@ -74,7 +74,7 @@ pub(crate) fn run_network(
     ensures small { (what : What) → result ≡ Err (faults.TooLarge what) → ⊥ }
     ensures accepted { (why : TableFault) → result ≡ Err (faults.BadTable why) → ⊥ }
 {
-    let values = values_of(alloc, table, net)?;
+    let values = network_values(alloc, table, net)?;
     let operator = Discharge::new(alloc, net)?;
     run_values(alloc, options, &operator, values)
 }

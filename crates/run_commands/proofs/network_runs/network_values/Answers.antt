@@ -5,7 +5,7 @@ use Rattle.flow_graph.specs.FlowState.{state_of}
 use Rattle.preflow_push.specs.Networks.{view}
 use Rattle.run_commands.specs.commands.Flow.{network_loop, shard_tables}
 use Rattle.run_commands.proofs.meanings.LoopRooms.{values_made}
-use Rattle.run_commands.proofs.network_runs.values_of.Goals as goal
+use Rattle.run_commands.proofs.network_runs.network_values.Goals as goal
 
 pub returns : goal.returns
 returns c =
