@@ -4,6 +4,8 @@ use Rattle.std.specs.Prelude.{int_lt}
 use Rattle.std.specs.Cmp.{signed_Decides}
 use Rattle.std.specs.Ordering.{int_eq}
 use Rattle.gx_base.specs.declared.calls.Spot.{Spot}
+use Rattle.gx_base.specs.declared.kinds.Kind.TheVariants.{Cells, Points}
+use Rattle.gx_base.specs.Kinds.{kind_number}
 use Rattle.gx_base.specs.Meanings.{number_reply}
 use Rattle.gx_base.specs.PointKind as points
 use Rattle.gx_base.specs.PointKind.{spot_of, spot_at, nearest_reply}
@@ -14,10 +16,10 @@ use Rattle.kd_points.specs.NearestPoints.{some_is}
 use Rattle.clustering.specs.PointCalls.{nearest, add, remove, at, read, set}
 
 abbrev pub ArePoints : State → Type 0
-ArePoints s = s.kind ≡ 3
+ArePoints s = s.kind ≡ kind_number Points
 
 abbrev pub AreCells : State → Type 0
-AreCells s = s.kind ≡ 1
+AreCells s = s.kind ≡ kind_number Cells
 
 -- ---- points
 

@@ -16,7 +16,7 @@ use Rattle.kd_points.specs.NearestPoints.{some_is, some_none}
 use Rattle.clustering.specs.declared.stages.Merge.{Merge}
 use Rattle.clustering.specs.Chain.{id_item, plus, mean, merge_of, into_key, weight_key}
 use Rattle.cluster_laws.specs.MutualPairs.{AreMutual}
-use Rattle.cluster_laws.proofs.Calls.{AreCells, int_same}
+use Rattle.cluster_laws.proofs.Calls.{ArePoints, AreCells, int_same}
 use Rattle.cluster_laws.proofs.Chains.{AreNumbered}
 use Rattle.cluster_laws.proofs.Counts.{same_number, no, no_bool, unequal, total, total_moved, total_at_two}
 use Rattle.cluster_laws.proofs.Items.{stays, entered, kept_in, first_of, later_of, id_of}
@@ -159,10 +159,10 @@ module _ (n : ℕ) (most : n ≤ 20000) (states : ℕ → State) (cloud : IsClou
   not_low = ap (λ (x : ℤ). int_lt x (pos 0)) first_number.2 ∙ not_negative i
 
   module _ (after : ℕ → State) (points : after 0 ≡ points_after (states 0) m) (cells : after 1 ≡ cells_after (states 1) m) where
-    are_after : (after 0).kind ≡ 3
+    are_after : ArePoints (after 0)
     are_after = ap (λ (s : State). s.kind) (points ∙ points-are (states 0) m cloud.are.are_points pair apart refl not_low (ap (λ (x : ℤ). int_eq x (pos 0)) merged_flat)) ∙ cloud.are.are_points
 
-    cells_after_it : (after 1).kind ≡ 1
+    cells_after_it : AreCells (after 1)
     cells_after_it = ap (λ (w : State). w.kind) (cells ∙ cells-are (states 1) m cloud.cells) ∙ cloud.cells
 
     merged_is : spot_at (after 0) u.id ≡ Some m.merged

@@ -7,6 +7,8 @@ use Rattle.std.proofs.lemmas.List.{append-nil}
 use Rattle.std.proofs.lemmas.List.Concat.{flat_map-cons}
 use Rattle.gx_base.specs.declared.calls.Spot.{Spot}
 use Rattle.gx_base.specs.declared.items.Item.{Item}
+use Rattle.gx_base.specs.declared.kinds.Kind.TheVariants.{Cells, Points}
+use Rattle.gx_base.specs.Kinds.{kind_number}
 use Rattle.gx_base.specs.PointKind.{spot_at}
 use Rattle.gx_base.specs.States.{State, number_at}
 use Rattle.gx_base.specs.Worklists.{has_item}
@@ -73,10 +75,10 @@ module _ (n : ℕ) (after : ℕ → State) (cloud : IsCloud n after) (some : 0 <
       sym (total_one cloud.weight weighty.0 n weighty.1 (λ k l apart. cloud.absent k (others_gone single k apart (spot_at (after 0) (pos k)) refl))) ∙ cloud.sum
 
   in_points : (k : ℕ) → point_in after (pos k) ≡ spot_at (after 0) (pos k)
-  in_points k = ap (λ (kind : ℕ). if kind == 3 then spot_at (after 0) (pos k) else None) cloud.are.are_points
+  in_points k = ap (λ (kind : ℕ). if kind == kind_number Points then spot_at (after 0) (pos k) else None) cloud.are.are_points
 
   in_cells : (k : ℕ) → cell_in after (pos k) ≡ number_at (after 1) (0, pos k)
-  in_cells k = ap (λ (kind : ℕ). if kind == 1 then number_at (after 1) (0, pos k) else pos 0) cloud.cells
+  in_cells k = ap (λ (kind : ℕ). if kind == kind_number Cells then number_at (after 1) (0, pos k) else pos 0) cloud.cells
 
   its_line : IsSingle (after 0) → there_line after weighty.0 ≡ left_line left_one.0 (pos n)
   its_line single =

@@ -12,8 +12,8 @@ use Rattle.gx_base.specs.SerialIterations.{body}
 use Rattle.gx_base.specs.States.{State}
 use Rattle.gx_base.specs.Worklists.{has_item, with_items}
 use Rattle.gx_base.proofs.serial.Prefixes.{FirstTurn, first_turn}
-use Rattle.clustering.specs.PointRows.{Place}
-use Rattle.clustering.specs.PointFiles.{numbered, most_points, IsReadable}
+use Rattle.clustering.specs.PointRows.{Coordinates}
+use Rattle.clustering.specs.PointFiles.{numbered_spots, most_points, IsReadable}
 use Rattle.clustering.specs.Chain.{id_item, is_of_id, chain_body, chain_plan, weighing, merging, merge_of}
 use Rattle.clustering.specs.CloudRooms.{point_in}
 use Rattle.clustering.specs.ClusterReports.{commit_line, if_gone, if_left, gone_line, there_line}
@@ -23,7 +23,7 @@ use Rattle.told_orders.proofs.Lines.{IsOfNumber, lines_tell, number_lines}
 use Rattle.told_orders.proofs.Orders.{PushesOnly, body-pushes, all-with_items, all-serial}
 use Rattle.cluster_laws.specs.ClusterRuns.{chain_operator}
 use Rattle.cluster_laws.specs.OrderLaw.{AreNumberedFromZero, ReportsOrder}
-use Rattle.cluster_laws.proofs.Beginnings.{begins_so, length-numbered}
+use Rattle.cluster_laws.proofs.Beginnings.{begins_so, length-numbered_spots}
 use Rattle.cluster_laws.proofs.Bodies.{HoldsBetween, IsIdle, goes_by_id, kept_by_bodies}
 use Rattle.cluster_laws.proofs.Chains.{Meets}
 use Rattle.cluster_laws.proofs.Clouds.{IsCloud}
@@ -35,7 +35,7 @@ use Rattle.cluster_laws.proofs.Items.{none_of}
 of_number : (n k : ℕ) → suc k ≤ n → n ≤ most_points → IsOfNumber (id_item (pos k))
 of_number n k less few = record { is = refl; fits = omega (arith, ints) }
 
-start_items : (places : List Place) (m : ℕ) → m + length places ≤ most_points → AllByRecursion IsOfNumber (start_ready (numbered m places))
+start_items : (places : List Coordinates) (m : ℕ) → m + length places ≤ most_points → AllByRecursion IsOfNumber (start_ready (numbered_spots m places))
 start_items [] m few = tt
 start_items (place ∷ places) m few = (of_number (suc m) m (omega arith) (omega arith), start_items places (suc m) (omega arith))
 
@@ -71,7 +71,7 @@ module _ (n : ℕ) (most : n ≤ most_points) where
 
 order_items : (spots : List Spot) (bytes : List ℕ) (order : List Item) → AreNumberedFromZero spots → ReportsOrder spots bytes order → AllByRecursion IsOfNumber order
 order_items spots bytes order are r =
-    let places : length are.places ≤ most_points = subst (λ (n : ℕ). n ≤ most_points) (ap (λ (l : List Spot). length l) are.are ∙ length-numbered 0 are.places) are.within in
+    let places : length are.places ≤ most_points = subst (λ (n : ℕ). n ≤ most_points) (ap (λ (l : List Spot). length l) are.are ∙ length-numbered_spots 0 are.places) are.within in
     let few : 0 + length are.places ≤ most_points = omega arith in
     let ready : AllByRecursion IsOfNumber (start_ready spots) = subst (λ (l : List Spot). AllByRecursion IsOfNumber (start_ready l)) (sym are.are) (start_items are.places 0 few) in
     all-serial IsOfNumber (chain_operator (length spots)) (HoldsBetween (length spots)) (kept_by_bodies (length spots) are.within) (pushed_by_bodies (length spots) are.within) order

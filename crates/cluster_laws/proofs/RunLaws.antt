@@ -15,6 +15,7 @@ use Rattle.cluster_laws.specs.ChainKeys.{KeysFallInEach}
 use Rattle.cluster_laws.specs.ClusterRuns.{chain_operator, IsRunOn, MergesMutualPairs, IsUnbounded, EndsInOne}
 use Rattle.cluster_laws.specs.MutualPairs.{AreNoneOrMutual, taken_out}
 use Rattle.cluster_laws.proofs.Beginnings.{begins_so, start-are_points}
+use Rattle.cluster_laws.proofs.Calls.{ArePoints}
 use Rattle.cluster_laws.proofs.Bodies.{HoldsBetween, kept_by_bodies, unbounded}
 use Rattle.cluster_laws.proofs.Ends.{ends_in_one}
 use Rattle.cluster_laws.proofs.FallingKeys.{all-fall}
@@ -35,9 +36,9 @@ pub end_in_one : (bytes : List ℕ) (spots : List Spot) (commits : List WholeCom
 end_in_one bytes spots commits after read some run = ends_in_one (length spots) (order_of commits) after (holds_at bytes spots commits _ read run) some
 
 -- the points stay points
-still_points : (spots : List Spot) (commits : List WholeCommit) (ended : Ended) → IsRunOn spots commits ended → (ended.states 0).kind ≡ 3
+still_points : (spots : List Spot) (commits : List WholeCommit) (ended : Ended) → IsRunOn spots commits ended → ArePoints (ended.states 0)
 still_points spots commits ended run =
-    kept (chain_operator (length spots)) (λ states ready. (states 0).kind ≡ 3) (λ item states ready k. body-kind ((chain_operator (length spots)).plan item) states 0 ∙ k) (order_of commits) (start_states spots)
+    kept (chain_operator (length spots)) (λ states ready. ArePoints (states 0)) (λ item states ready k. body-kind ((chain_operator (length spots)).plan item) states 0 ∙ k) (order_of commits) (start_states spots)
     (with_items [] (start_ready spots)) ended (start-are_points spots) run.in_turn
 
 pub merge_mutual : (spots : List Spot) (commits : List WholeCommit) (ended : Ended) → IsRunOn spots commits ended → MergesMutualPairs spots commits

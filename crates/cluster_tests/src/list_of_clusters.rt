@@ -47,7 +47,7 @@ fn mean(v: i64, x: i64, w: i64, y: i64) -> i64 {
     sum.div_euclid(weight)
 }
 
-fn place_of(clusters: &[Cluster], id: i64) -> Option<usize>
+fn cluster_index(clusters: &[Cluster], id: i64) -> Option<usize>
     ensures { IfSome result (λ place. place < length clusters.now) }
 {
     for place in 0..clusters.len() {
@@ -95,12 +95,12 @@ impl Clusters {
     }
 
     fn at(&self, id: i64) -> Option<Cluster> {
-        let place = place_of(&self.left, id)?;
+        let place = cluster_index(&self.left, id)?;
         Some(self.left[place])
     }
 
     fn take_out(&mut self, id: i64) {
-        if let Some(place) = place_of(&self.left, id) {
+        if let Some(place) = cluster_index(&self.left, id) {
             self.left.remove(place);
         }
     }

@@ -10,38 +10,38 @@ use Rattle.gx_base.specs.declared.inputs.What.TheVariants.{Points}
 use Rattle.gx_base.specs.declared.inputs.InputFault.{InputFault}
 use Rattle.gx_base.specs.declared.inputs.InputFault.TheVariants.{Line, Large, NoMemory}
 use Rattle.std.specs.Global.{Vec}
-use Rattle.clustering.specs.PointRows.{Row, Place, place_of}
+use Rattle.clustering.specs.PointRows.{FileRow, Coordinates, coordinates_in}
 
 -- the rows of a text, as CSV has them: without a header, and past a byte order mark
-abbrev pub AreRows : List ℕ → List Row → Type 0
+abbrev pub AreRows : List ℕ → List FileRow → Type 0
 AreRows bytes rows = AreRecords default_config st.StartRecord (strip_bom bytes) rows
 
 -- a point of the plane
-abbrev pub spot_in : ℕ → Place → Spot
+abbrev pub spot_in : ℕ → Coordinates → Spot
 spot_in n place = record { id = pos n; x = place.0; y = place.1; z = pos 0 }
 
 -- points at these places, numbered on from n
-abbrev pub numbered : ℕ → List Place → List Spot
-numbered n [] = []
-numbered n (place ∷ places) = spot_in n place ∷ numbered (suc n) places
+abbrev pub numbered_spots : ℕ → List Coordinates → List Spot
+numbered_spots n [] = []
+numbered_spots n (place ∷ places) = spot_in n place ∷ numbered_spots (suc n) places
 
 -- the bytes are a file of these points: each row says where one stands, and they are numbered from 0
 pub record IsPointsFile (bytes : List ℕ) (spots : List Spot) : Type 0 where
-  pub rows : List Row
+  pub rows : List FileRow
   pub are_rows : AreRows bytes rows
-  pub places : List Place
-  pub each : map place_of rows ≡ map (λ place. Some place) places
-  pub are : spots ≡ numbered 0 places
+  pub places : List Coordinates
+  pub each : map coordinates_in rows ≡ map (λ place. Some place) places
+  pub are : spots ≡ numbered_spots 0 places
 
 -- row k, from 1, says of no point where it stands, and each row before it does
 pub record IsFirstBadRow (bytes : List ℕ) (k : ℕ) : Type 0 where
-  pub rows : List Row
+  pub rows : List FileRow
   pub are_rows : AreRows bytes rows
   pub from_one : 1 ≤ k
-  pub before : AllByRecursion (λ row. IsSome (place_of row)) (take (k - 1) rows)
-  pub row : Row
+  pub before : AllByRecursion (λ row. IsSome (coordinates_in row)) (take (k - 1) rows)
+  pub row : FileRow
   pub at : slice_get rows (k - 1) ≡ Some row
-  pub faulty : place_of row ≡ None
+  pub faulty : coordinates_in row ≡ None
 
 abbrev pub most_points : ℕ
 most_points = 20000

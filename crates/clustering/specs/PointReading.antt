@@ -2,20 +2,20 @@
 use Rattle.std.specs.Prelude.{◌≡◌, ℕ, ◌≤◌, List, length, map, Some, ⊤}
 use Rattle.gx_base.specs.declared.inputs.InputFault.{InputFault}
 use Rattle.gx_base.specs.declared.inputs.InputFault.TheVariants.{Line, Large, NoMemory}
-use Rattle.clustering.specs.declared.reading.Seen.{Seen}
-use Rattle.clustering.specs.PointRows.{Row, Place, place_of}
-use Rattle.clustering.specs.PointFiles.{AreRows, IsFirstBadRow, numbered, most_points}
+use Rattle.clustering.specs.declared.reading.RowsRead.{RowsRead}
+use Rattle.clustering.specs.PointRows.{FileRow, Coordinates, coordinates_in}
+use Rattle.clustering.specs.PointFiles.{AreRows, IsFirstBadRow, numbered_spots, most_points}
 
 -- these rows say where points stand, and as many of the points as may be read are kept
-pub record HasRead (rows : List Row) (seen : Seen) : Type 0 where
-  pub places : List Place
-  pub each : map place_of rows ≡ map (λ place. Some place) places
+pub record HasRead (rows : List FileRow) (seen : RowsRead) : Type 0 where
+  pub places : List Coordinates
+  pub each : map coordinates_in rows ≡ map (λ place. Some place) places
   pub count : seen.rows ≡ length rows
-  pub kept : seen.rows ≤ most_points → seen.spots.items ≡ numbered 0 places
+  pub kept : seen.rows ≤ most_points → seen.spots.items ≡ numbered_spots 0 places
 
 -- all rows of a text were read
-pub record HasReadAll (bytes : List ℕ) (seen : Seen) : Type 0 where
-  pub rows : List Row
+pub record HasReadAll (bytes : List ℕ) (seen : RowsRead) : Type 0 where
+  pub rows : List FileRow
   pub are_rows : AreRows bytes rows
   pub has_read : HasRead rows seen
 

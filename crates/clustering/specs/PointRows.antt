@@ -3,12 +3,12 @@ use Rattle.std.specs.Prelude.{ℕ, ℤ, pos, neg_ℤ, Bool, ◌==◌, nat_le, if
 use Rattle.text_lines.specs.Numbers.{number_of}
 
 -- the fields of a row, as bytes
-abbrev pub Row : Type 0
-Row = List (List ℕ)
+abbrev pub FileRow : Type 0
+FileRow = List (List ℕ)
 
 -- the two coordinates of a point
-abbrev pub Place : Type 0
-Place = ℤ × ℤ
+abbrev pub Coordinates : Type 0
+Coordinates = ℤ × ℤ
 
 -- the largest coordinate: a thousand million
 abbrev pub most_coordinate : ℕ
@@ -31,14 +31,14 @@ abbrev pub coordinate_of : List ℕ → Option ℤ
 coordinate_of [] = None
 coordinate_of (b ∷ bs) = signed (b == 45) (if b == 45 then size_of bs else size_of (b ∷ bs))
 
-abbrev pub both_of : Option ℤ → Option ℤ → Option Place
-both_of (Some x) (Some y) = Some (x, y)
-both_of (Some x) None = None
-both_of None y = None
+abbrev pub both_coordinates : Option ℤ → Option ℤ → Option Coordinates
+both_coordinates (Some x) (Some y) = Some (x, y)
+both_coordinates (Some x) None = None
+both_coordinates None y = None
 
 -- a row of a point has two fields and no more
-abbrev pub place_of : Row → Option Place
-place_of [] = None
-place_of (x ∷ []) = None
-place_of (x ∷ y ∷ []) = both_of (coordinate_of x) (coordinate_of y)
-place_of (x ∷ y ∷ z ∷ fields) = None
+abbrev pub coordinates_in : FileRow → Option Coordinates
+coordinates_in [] = None
+coordinates_in (x ∷ []) = None
+coordinates_in (x ∷ y ∷ []) = both_coordinates (coordinate_of x) (coordinate_of y)
+coordinates_in (x ∷ y ∷ z ∷ fields) = None

@@ -9,14 +9,14 @@ use text_lines::number;
 
 const MOST_COORDINATE: u64 = 1_000_000_000;
 
-const MOST_DIGITS: usize = 10;
+const MOST_COORDINATE_DIGITS: usize = 10;
 
 /// The size of a coordinate, which its digits spell.
 fn size(digits: &[u8]) -> Option<u64>
     ensures value { result ≡ said.size_of digits.now }
     ensures small { IfSome result (λ n. n ≤ said.most_coordinate) }
 {
-    if digits.len() > MOST_DIGITS {
+    if digits.len() > MOST_COORDINATE_DIGITS {
         return None;
     }
     match number(digits) {
@@ -43,7 +43,7 @@ fn coordinate(field: &[u8]) -> Option<i64>
 }
 
 fn both(x: &[u8], y: &[u8]) -> Option<(i64, i64)>
-    ensures { result ≡ said.both_of (said.coordinate_of x.now) (said.coordinate_of y.now) }
+    ensures { result ≡ said.both_coordinates (said.coordinate_of x.now) (said.coordinate_of y.now) }
 {
     let x = coordinate(x)?;
     let y = coordinate(y)?;
@@ -52,7 +52,7 @@ fn both(x: &[u8], y: &[u8]) -> Option<(i64, i64)>
 
 /// Where a row says that a point stands.
 pub fn place(row: &ByteRecord) -> Option<(i64, i64)>
-    ensures { result ≡ said.place_of (fields_of row.now) }
+    ensures { result ≡ said.coordinates_in (fields_of row.now) }
 {
     match row.get(0) {
         None => None,

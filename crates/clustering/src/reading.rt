@@ -5,7 +5,7 @@ ghost use Rattle.csv.specs.Records.{fields_of};
 ghost use Rattle.gx_base.specs.declared.inputs.InputFault as fault;
 ghost use Rattle.gx_base.specs.declared.inputs.InputFault.TheVariants as faults;
 ghost use Rattle.gx_base.specs.declared.calls.Spot as spot;
-ghost use Rattle.clustering.specs.PointRows.{Row, place_of};
+ghost use Rattle.clustering.specs.PointRows.{FileRow, coordinates_in};
 ghost use Rattle.clustering.specs.PointFiles.{CallsFor, answer_of, most_points};
 ghost use Rattle.clustering.specs.PointReading.{HasRead, HasReadAll, StopsReading};
 
@@ -29,7 +29,7 @@ pub fn read_points(alloc: Global, bytes: &[u8]) -> Result<Vec<Spot>, InputFault>
 }
 
 /// Reads row by row, whatever the limit.
-fn read_rows(alloc: Global, bytes: &[u8]) -> Result<Seen, InputFault>
+fn read_rows(alloc: Global, bytes: &[u8]) -> Result<RowsRead, InputFault>
     ensures read { IfOk result (λ seen. HasReadAll bytes.now seen) }
     ensures stopped { IfErr result (λ fault. StopsReading bytes.now fault) }
 {
@@ -37,7 +37,7 @@ fn read_rows(alloc: Global, bytes: &[u8]) -> Result<Seen, InputFault>
         .has_headers(false)
         .flexible(true)
         .from_reader(alloc, bytes);
-    let mut seen = Seen::new(alloc);
+    let mut seen = RowsRead::new(alloc);
     for row in reader.into_byte_records() {
         match row {
             Ok(row) => match seen.take(&row) {
@@ -53,17 +53,17 @@ fn read_rows(alloc: Global, bytes: &[u8]) -> Result<Seen, InputFault>
 
 /// What the rows said so far.
 #[derive(Drop)]
-pub struct Seen {
+pub struct RowsRead {
     /// The points of the rows, as many as may be read.
     spots: Vec<Spot>,
     rows: u64,
 }
 
-impl Seen {
-    fn new(alloc: Global) -> Seen
+impl RowsRead {
+    fn new(alloc: Global) -> RowsRead
         ensures { HasRead [] result }
     {
-        Seen {
+        RowsRead {
             spots: Vec::new(alloc),
             rows: 0,
         }
@@ -72,8 +72,8 @@ impl Seen {
     /// Takes what one more row says, and tells whether it says where a point stands.
     fn take(&mut self, row: &ByteRecord) -> Result<bool, NoMemory>
         requires { self.old.rows < 2 ^ 63 }
-        ensures good { IfOk result (λ good. IsTrue good → (rows : List Row) → HasRead rows self.old → HasRead (rows ++ fields_of row.now ∷ []) self.new) }
-        ensures faulty { IfOk result (λ good. IsFalse good → place_of (fields_of row.now) ≡ None) }
+        ensures good { IfOk result (λ good. IsTrue good → (rows : List FileRow) → HasRead rows self.old → HasRead (rows ++ fields_of row.now ∷ []) self.new) }
+        ensures faulty { IfOk result (λ good. IsFalse good → coordinates_in (fields_of row.now) ≡ None) }
         ensures unchanged { IfOk result (λ good. IsFalse good → self.new.rows ≡ self.old.rows) }
     {
         let Some((x, y)) = place(row) else {

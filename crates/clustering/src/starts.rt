@@ -22,12 +22,12 @@ pub fn start(alloc: Global, spots: &[Spot]) -> Result<(Vec<Cloud>, Vec<Item>), N
 {
     let points = KdPoints::with_points(alloc, spots)?;
     let weights = weights_of(alloc, spots)?;
-    let rooms = rooms_of(alloc, points, weights)?;
+    let rooms = clouds_of(alloc, points, weights)?;
     let ready = items_of(alloc, spots)?;
     Ok((rooms, ready))
 }
 
-fn rooms_of(alloc: Global, points: KdPoints, weights: Cells) -> Result<Vec<Cloud>, NoMemory>
+fn clouds_of(alloc: Global, points: KdPoints, weights: Cells) -> Result<Vec<Cloud>, NoMemory>
     ensures rooms { IfOk result (λ made. length made.items ≡ rooms) }
     ensures states { IfOk result (λ made. map state_of made.items ≡ points_state points ∷ cells_state weights ∷ []) }
 {

@@ -8,5 +8,5 @@ abbrev pub room_view : BookView → RoomView
 room_view b = record { live = []; done = []; commits = b.commits; mark = 0; origin = OfBook b.first_ready b.ordered }
 
 -- what is asked of a gate's live entries is asked of no book
-pub alone : (b : BookView) (worker : ℕ) → is_book (room_view b).origin ≡ false → ReplaysAlone (room_view b) worker
-alone b worker no_book = absurd (cc)
+pub book_alone : (b : BookView) (worker : ℕ) → is_book (room_view b).origin ≡ false → ReplaysAlone (room_view b) worker
+book_alone b worker no_book = absurd (cc)

@@ -3,7 +3,7 @@ use Rattle.std.specs.Prelude.{Option, Some, None, List}
 use Rattle.cond_syntax.specs.Tokens as plain
 use Rattle.cond_syntax.specs.WrittenConditions.{WrittenTerm, Fixed, Named, Far, IsEqual, IsOther, IsLess, IsAtMost, WrittenCondition, Compare}
 use Rattle.cond_syntax.specs.WrittenConditions as written
-use Rattle.cond_text.specs.Machine.{Frame, Due, State, OpenDue, term_done}
+use Rattle.cond_text.specs.Machine.{Frame, Due, ReadingState, OpenDue, term_done}
 use Rattle.cond_text.specs.declared.terms.Spelled.{Spelled}
 use Rattle.cond_text.specs.declared.terms.Spelled.TheVariants.{Number, Word, Beyond}
 use Rattle.cond_text.specs.declared.terms.Relation.{Relation}
@@ -25,7 +25,7 @@ abbrev pub comparison_spelled : Comparison → WrittenCondition
 comparison_spelled c = Compare (relation_spelled c.relation) (term_spelled c.left) (term_spelled c.right)
 
 -- the state after the token that begins a term
-abbrev pub term_begun : Due → List Frame → plain.Token → Option State
+abbrev pub term_begun : Due → List Frame → plain.Token → Option ReadingState
 term_begun due frames (plain.Number number) = Some (term_done (Fixed number) due frames)
 term_begun due frames (plain.Word word) = Some (term_done (Named word) due frames)
 term_begun due frames plain.BeyondKey = Some (OpenDue due frames)

@@ -1,7 +1,7 @@
 -- What waits for its right side, in frames.
 use Rattle.std.specs.Prelude.{◌≡◌, ℕ, zero, suc, min, List, [], ◌∷◌, Option, Some, None}
 use Rattle.cond_syntax.specs.WrittenConditions.{WrittenCondition}
-use Rattle.cond_text.specs.Machine.{Frame, OrLeft, AndLeft, Negation, Group, State, Operand, Done}
+use Rattle.cond_text.specs.Machine.{Frame, OrLeft, AndLeft, Negation, Group, ReadingState, Operand, Done}
 use Rattle.cond_text.specs.Drafts.{IsDraft, IsLeft, either_of}
 use Rattle.cond_text.specs.declared.drafts.Draft.{Draft}
 use Rattle.cond_text.specs.declared.levels.Level.{Level}
@@ -42,11 +42,11 @@ pub record IsDraftConjunction (kind : ℕ) (conjunction : Conjunction) (base : O
   pub is : frames ≡ or_frames or_left (outside base)
 
 -- the state is that after this conjunction
-abbrev pub LeadsConjunction : ℕ → Option (List Frame) → State → Conjunction → Type 0
+abbrev pub LeadsConjunction : ℕ → Option (List Frame) → ReadingState → Conjunction → Type 0
 LeadsConjunction kind base state conjunction = (last : WrittenCondition) × (frames : List Frame) × IsDraftConjunction kind conjunction base last frames × (state ≡ Done last frames)
 
 -- a unit is due in the state, inside of this level
-abbrev pub LeadsLevel : ℕ → Option (List Frame) → State → Level → Type 0
+abbrev pub LeadsLevel : ℕ → Option (List Frame) → ReadingState → Level → Type 0
 LeadsLevel kind base state level = (frames : List Frame) × IsLevel kind level base frames × (state ≡ Operand frames)
 
 -- the draft is of the condition that the conjunction ends

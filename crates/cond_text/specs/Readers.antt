@@ -3,7 +3,7 @@ use Rattle.std.specs.Prelude.{◌≡◌, ℕ, List, [], ◌∷◌, reverse, Opti
 use Rattle.gx_base.specs.Kinds.{kind_number}
 use Rattle.cond_syntax.specs.WrittenConditions.{WrittenCondition, True, False}
 use Rattle.cond_text.specs.Machine as machine
-use Rattle.cond_text.specs.Machine.{Frame, State, Operand, Whole, First, unit_done}
+use Rattle.cond_text.specs.Machine.{Frame, ReadingState, Operand, Whole, First, unit_done}
 use Rattle.cond_text.specs.Comparisons.{term_begun}
 use Rattle.cond_syntax.specs.Tokens.{Token, TrueKey, FalseKey}
 use Rattle.cond_text.specs.Drafts.{IsDraft}
@@ -14,8 +14,8 @@ use Rattle.cond_text.specs.declared.sources.Stop.{Stop}
 use Rattle.cond_text.specs.declared.sources.Stop.TheVariants.{Wrong, Cut, NoMemory}
 use Rattle.cond_text.specs.declared.drafts.Draft.{Draft}
 use Rattle.cond_text.specs.declared.levels.Level.{Level}
-use Rattle.cond_text.specs.declared.readers.Place.{Place}
-use Rattle.cond_text.specs.declared.readers.Place.TheVariants.{Due, Done}
+use Rattle.cond_text.specs.declared.readers.Innermost.{Innermost}
+use Rattle.cond_text.specs.declared.readers.Innermost.TheVariants.{Due, Done}
 use Rattle.cond_text.specs.declared.readers.Reader.{Reader}
 
 -- levels, the innermost first, stand for the frames outside of the innermost parenthesis
@@ -23,28 +23,28 @@ abbrev pub AreOutside : ℕ → List Level → Option (List Frame) → Type 0
 AreOutside kind [] base = base ≡ None
 AreOutside kind (level ∷ levels) base = (frames : List Frame) × (below : Option (List Frame)) × (base ≡ Some frames) × IsLevel kind level below frames × AreOutside kind levels below
 
-abbrev pub IsReaderPlace : ℕ → Option (List Frame) → Place → State → Type 0
+abbrev pub IsReaderPlace : ℕ → Option (List Frame) → Innermost → ReadingState → Type 0
 IsReaderPlace kind base (Due level) state = LeadsLevel kind base state level
 IsReaderPlace kind base (Done conjunction) state = LeadsConjunction kind base state conjunction
 
 -- what has been read is this state, with the words of a kind
-pub record HasReached (kind : ℕ) (reader : Reader) (state : State) : Type 0 where
+pub record HasReached (kind : ℕ) (reader : Reader) (state : ReadingState) : Type 0 where
   pub base : Option (List Frame)
   pub outer : AreOutside kind (reverse reader.outer.items) base
   pub place : IsReaderPlace kind base reader.place state
 
 -- the reader has come to this state, if there is one
-abbrev pub IsTaken : ℕ → Option State → Option Reader → Type 0
-IsTaken kind state (Some reader) = (next : State) × HasReached kind reader next × (state ≡ Some next)
+abbrev pub IsTaken : ℕ → Option ReadingState → Option Reader → Type 0
+IsTaken kind state (Some reader) = (next : ReadingState) × HasReached kind reader next × (state ≡ Some next)
 IsTaken kind state None = state ≡ None
 
 -- What is read leads from this state, if there is one, to that of the reader.
-abbrev pub LeadsReader : ℕ → Source → Source → Option State → Result Reader Stop → Type 0
-LeadsReader kind old new state (Ok reader) = (next : State) × HasReached kind reader next × (reading state old ≡ reading (Some next) new)
+abbrev pub LeadsReader : ℕ → Source → Source → Option ReadingState → Result Reader Stop → Type 0
+LeadsReader kind old new state (Ok reader) = (next : ReadingState) × HasReached kind reader next × (reading state old ≡ reading (Some next) new)
 LeadsReader kind old new state (Err stop) = Stops old state stop
 
 -- the state after a token where a unit is due, no `not` and no parenthesis
-abbrev pub unit_begun : List Frame → Token → Option State
+abbrev pub unit_begun : List Frame → Token → Option ReadingState
 unit_begun frames TrueKey = Some (unit_done True frames)
 unit_begun frames FalseKey = Some (unit_done False frames)
 unit_begun frames t = term_begun First frames t

@@ -6,7 +6,7 @@ use Rattle.cond_syntax.specs.Tokens as plain
 use Rattle.cond_syntax.specs.Tokens.{tokens_in}
 use Rattle.cond_syntax.specs.Fronts.{front_from, is_cut_from, all_known}
 use Rattle.cond_text.specs.Machine as machine
-use Rattle.cond_text.specs.Machine.{State, Reading, run, ended, step, whole, whole_or_wrong}
+use Rattle.cond_text.specs.Machine.{ReadingState, Reading, run, ended, step, whole, whole_or_wrong}
 use Rattle.cond_text.specs.CodeTokens.{token_seen}
 use Rattle.cond_text.specs.declared.tokens.TextToken.{TextToken}
 use Rattle.cond_text.specs.declared.sources.Source.{Source}
@@ -21,7 +21,7 @@ abbrev pub tokens_ahead : Source → List plain.Token
 tokens_ahead source = front_from source.opened (tokens_in source.rest.now)
 
 -- what reading all of them from a state on comes to
-unfoldable pub reading : Option State → Source → Reading
+unfoldable pub reading : Option ReadingState → Source → Reading
 reading state source = ended (is_cut_from source.opened (tokens_in source.rest.now)) (run state (tokens_ahead source))
 
 -- whether each word is known in its place, of those that have been read and those ahead
@@ -32,7 +32,7 @@ words_known source = source.all_known && all_known (kind_number source.kind) sou
 pub record IsSourceStart (wanted : Kind) (text : List ℕ) (source : Source) : Type 0 where
   pub kind : source.kind ≡ wanted
   pub known : words_known source ≡ all_known (kind_number wanted) false (front_from 0 (tokens_in text))
-  pub reads : (state : State) → reading (Some state) source ≡ machine.read_from (is_cut_from 0 (tokens_in text)) state (front_from 0 (tokens_in text))
+  pub reads : (state : ReadingState) → reading (Some state) source ≡ machine.read_from (is_cut_from 0 (tokens_in text)) state (front_from 0 (tokens_in text))
 
 -- a part of what is ahead has been read
 pub record IsLater (old new : Source) : Type 0 where
@@ -46,9 +46,9 @@ IsAtEnd source = words_known source ≡ source.all_known
 
 -- what the next token is
 abbrev pub IsNext : Source → Source → Next → Type 0
-IsNext old new (Read token) = ((state : State) → reading (Some state) old ≡ reading (step state (token_seen token)) new) × (length new.rest.now < length old.rest.now)
-IsNext old new End = ((state : State) → reading (Some state) old ≡ whole_or_wrong (whole state)) × IsAtEnd new
-IsNext old new next.Cut = ((state : State) → reading (Some state) old ≡ machine.Cut) × IsAtEnd new
+IsNext old new (Read token) = ((state : ReadingState) → reading (Some state) old ≡ reading (step state (token_seen token)) new) × (length new.rest.now < length old.rest.now)
+IsNext old new End = ((state : ReadingState) → reading (Some state) old ≡ whole_or_wrong (whole state)) × IsAtEnd new
+IsNext old new next.Cut = ((state : ReadingState) → reading (Some state) old ≡ machine.Cut) × IsAtEnd new
 
 -- where reading stops for a further parenthesis, no word is ahead
 abbrev pub IsStoppedAt : Source → Stop → Type 0
@@ -61,23 +61,23 @@ IsStopped source (Ok value) = Unit {0}
 IsStopped source (Err stop) = IsStoppedAt source stop
 
 -- Reading stops, from a state on. The state is none where what has been read before can't stand there.
-abbrev pub Stops : Source → Option State → Stop → Type 0
+abbrev pub Stops : Source → Option ReadingState → Stop → Type 0
 Stops source state Wrong = reading state source ≡ machine.Wrong
 Stops source state Cut = reading state source ≡ machine.Cut
 Stops source state NoMemory = Unit {0}
 
 -- what is read leads from one state to another that depends on the answer
-abbrev pub Leads : {T : Type 0} → Source → Source → Option State → (T → State) → Result T Stop → Type 0
+abbrev pub Leads : {T : Type 0} → Source → Source → Option ReadingState → (T → ReadingState) → Result T Stop → Type 0
 Leads old new state after (Ok value) = reading state old ≡ reading (Some (after value)) new
 Leads old new state after (Err stop) = Stops old state stop
 
 -- there is no token
-abbrev pub StopsToken : Source → State → Stop → Type 0
+abbrev pub StopsToken : Source → ReadingState → Stop → Type 0
 StopsToken source state Wrong = reading (Some state) source ≡ whole_or_wrong (whole state)
 StopsToken source state Cut = reading (Some state) source ≡ machine.Cut
 StopsToken source state NoMemory = ⊥
 
 -- one token has been read that has to be there
-abbrev pub LeadsToken : Source → Source → State → Result TextToken Stop → Type 0
+abbrev pub LeadsToken : Source → Source → ReadingState → Result TextToken Stop → Type 0
 LeadsToken old new state (Ok token) = reading (Some state) old ≡ reading (step state (token_seen token)) new
 LeadsToken old new state (Err stop) = StopsToken old state stop

@@ -21,7 +21,7 @@ pub(crate) enum Draft {
 }
 
 /// A draft's `not`.
-fn negated(alloc: Global, draft: Draft) -> Result<Draft, NoMemory>
+fn negated_once(alloc: Global, draft: Draft) -> Result<Draft, NoMemory>
     ensures { (kind : ℕ) (written : WrittenCondition) → IsDraft kind written draft → IfOk result (IsDraft kind (Not written)) }
 {
     match draft {
@@ -41,7 +41,7 @@ pub(crate) fn negated_by(alloc: Global, nots: u32, draft: Draft) -> Result<Draft
     }
     let mut draft = draft;
     for _ in 0..nots {
-        draft = negated(alloc, draft)?;
+        draft = negated_once(alloc, draft)?;
     }
     Ok(draft)
 }

@@ -4,7 +4,7 @@ ghost use Rattle.std.specs.Prelude.{ℕ, List, ◌∷◌, [], Option, reverse, I
 ghost use Rattle.gx_base.specs.Kinds.{kind_number};
 ghost use Rattle.cond_syntax.specs.WrittenConditions.{WrittenCondition};
 ghost use Rattle.cond_text.specs.Machine as machine;
-ghost use Rattle.cond_text.specs.Machine.{State, Frame, Operand, step, unit_done, close_read, whole};
+ghost use Rattle.cond_text.specs.Machine.{ReadingState, Frame, Operand, step, unit_done, close_read, whole};
 ghost use Rattle.cond_text.specs.CodeTokens.{token_seen};
 ghost use Rattle.cond_text.specs.Drafts.{IsDraft};
 ghost use Rattle.cond_text.specs.Levels.{IsLevel, IsDraftConjunction};
@@ -21,7 +21,7 @@ use std::alloc::Global;
 
 /// What has been read inside of the innermost parenthesis.
 #[derive(Drop)]
-enum Place {
+enum Innermost {
     /// A unit is due.
     Due(Level),
     /// A conjunction has been read.
@@ -34,7 +34,7 @@ struct Reader {
     alloc: Global,
     /// What waits outside of each open parenthesis, the innermost last.
     outer: Vec<Level>,
-    place: Place,
+    place: Innermost,
 }
 
 impl Reader {
@@ -44,7 +44,7 @@ impl Reader {
         Reader {
             alloc,
             outer: Vec::new(alloc),
-            place: Place::Due(Level::new()),
+            place: Innermost::Due(Level::new()),
         }
     }
 
@@ -55,7 +55,7 @@ impl Reader {
         Reader {
             alloc,
             outer,
-            place: Place::Due(level),
+            place: Innermost::Due(level),
         }
     }
 
@@ -63,7 +63,7 @@ impl Reader {
     fn take<'a>(self, source: &mut Source<'a>, token: TextToken<'a>) -> Result<Self, Stop>
         ensures later { IsLater source.old source.new }
         ensures stopped { IsStopped source.new result }
-        ensures leads { (state : State) → HasReached (kind_number source.old.kind) self state → LeadsReader (kind_number source.old.kind) source.old source.new (step state (token_seen token.entry)) result }
+        ensures leads { (state : ReadingState) → HasReached (kind_number source.old.kind) self state → LeadsReader (kind_number source.old.kind) source.old source.new (step state (token_seen token.entry)) result }
     {
         let Reader {
             alloc,
@@ -71,8 +71,8 @@ impl Reader {
             place,
         } = self;
         match place {
-            Place::Due(level) => take_due(alloc, outer, level, source, token),
-            Place::Done(conjunction) => match take_done(alloc, outer, conjunction, token)? {
+            Innermost::Due(level) => take_due(alloc, outer, level, source, token),
+            Innermost::Done(conjunction) => match take_done(alloc, outer, conjunction, token)? {
                 Some(reader) => Ok(reader),
                 None => Err(Stop::Wrong),
             },
@@ -81,14 +81,14 @@ impl Reader {
 
     /// The condition that has been read.
     fn end(self) -> Result<Draft, Stop>
-        ensures { (kind : ℕ) (state : State) → HasReached kind self state → IsEnded kind (whole state) result }
+        ensures { (kind : ℕ) (state : ReadingState) → HasReached kind self state → IsEnded kind (whole state) result }
     {
         let Reader {
             alloc,
             outer,
             place,
         } = self;
-        let Place::Done(conjunction) = place else {
+        let Innermost::Done(conjunction) = place else {
             return Err(Stop::Wrong);
         };
         if !outer.is_empty() {
@@ -112,7 +112,7 @@ fn after_unit(
     Ok(Reader {
         alloc,
         outer,
-        place: Place::Done(conjunction),
+        place: Innermost::Done(conjunction),
     })
 }
 

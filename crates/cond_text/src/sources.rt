@@ -95,7 +95,7 @@ impl<'a> Source<'a> {
     ghost use Rattle.std.specs.Prelude.{ℕ, List};
     ghost use Rattle.gx_base.specs.Kinds.{kind_number};
     ghost use Rattle.cond_syntax.specs.Tokens as plain;
-    ghost use Rattle.cond_text.specs.Machine.{State, step, open_read, word_read, comma_read, close_due, whole};
+    ghost use Rattle.cond_text.specs.Machine.{ReadingState, step, open_read, word_read, comma_read, close_due, whole};
     ghost use Rattle.cond_text.specs.Sources.{IsSourceStart, IsNext, IsLater, IsStopped, LeadsToken, Leads};
 
     /// The tokens of a text whose words are those of a kind's conditions.
@@ -157,7 +157,7 @@ impl<'a> Source<'a> {
     pub(crate) fn token(&mut self) -> Result<TextToken<'a>, Stop>
         ensures later { IsLater self.old self.new }
         ensures stopped { IsStopped self.new result }
-        ensures leads { (state : State) → LeadsToken self.old self.new state result }
+        ensures leads { (state : ReadingState) → LeadsToken self.old self.new state result }
     {
         match self.next() {
             Next::Read(token) => Ok(token),
@@ -170,7 +170,7 @@ impl<'a> Source<'a> {
     pub(crate) fn word(&mut self) -> Result<&'a [u8], Stop>
         ensures later { IsLater self.old self.new }
         ensures stopped { IsStopped self.new result }
-        ensures leads { (state : State) (next : List ℕ → State) → (whole state ≡ None) → ((token : plain.Token) → step state token ≡ word_read next token) → Leads self.old self.new (Some state) (λ word. next word.now) result }
+        ensures leads { (state : ReadingState) (next : List ℕ → ReadingState) → (whole state ≡ None) → ((token : plain.Token) → step state token ≡ word_read next token) → Leads self.old self.new (Some state) (λ word. next word.now) result }
     {
         match self.token()? {
             TextToken::Word(word) => Ok(word),
@@ -182,7 +182,7 @@ impl<'a> Source<'a> {
     pub(crate) fn opening(&mut self) -> Result<(), Stop>
         ensures later { IsLater self.old self.new }
         ensures stopped { IsStopped self.new result }
-        ensures leads { (state next : State) → (whole state ≡ None) → ((token : plain.Token) → step state token ≡ open_read next token) → Leads self.old self.new (Some state) (λ _. next) result }
+        ensures leads { (state next : ReadingState) → (whole state ≡ None) → ((token : plain.Token) → step state token ≡ open_read next token) → Leads self.old self.new (Some state) (λ _. next) result }
     {
         match self.token()? {
             TextToken::Open => Ok(()),
@@ -194,7 +194,7 @@ impl<'a> Source<'a> {
     pub(crate) fn comma(&mut self) -> Result<(), Stop>
         ensures later { IsLater self.old self.new }
         ensures stopped { IsStopped self.new result }
-        ensures leads { (state next : State) → (whole state ≡ None) → ((token : plain.Token) → step state token ≡ comma_read next token) → Leads self.old self.new (Some state) (λ _. next) result }
+        ensures leads { (state next : ReadingState) → (whole state ≡ None) → ((token : plain.Token) → step state token ≡ comma_read next token) → Leads self.old self.new (Some state) (λ _. next) result }
     {
         match self.token()? {
             TextToken::Comma => Ok(()),
@@ -206,7 +206,7 @@ impl<'a> Source<'a> {
     pub(crate) fn closing(&mut self) -> Result<(), Stop>
         ensures later { IsLater self.old self.new }
         ensures stopped { IsStopped self.new result }
-        ensures leads { (state next : State) → (whole state ≡ None) → ((token : plain.Token) → step state token ≡ close_due next token) → Leads self.old self.new (Some state) (λ _. next) result }
+        ensures leads { (state next : ReadingState) → (whole state ≡ None) → ((token : plain.Token) → step state token ≡ close_due next token) → Leads self.old self.new (Some state) (λ _. next) result }
     {
         match self.token()? {
             TextToken::Close => Ok(()),

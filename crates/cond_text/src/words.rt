@@ -7,10 +7,7 @@ ghost use Rattle.gx_base.specs.Methods as methods;
 ghost use Rattle.cond_syntax.specs.WrittenConditions as written;
 ghost use Rattle.cond_syntax.specs.TableTexts as texts;
 
-use gx_base::{Kind, Part, Side, Term, method_at, word_of};
-
-/// No kind has more methods.
-const MOST_METHODS: u32 = 8;
+use gx_base::{Kind, MOST_METHODS, Part, Side, Term, method_at, word_of};
 
 /// The kind with this word.
 pub(crate) fn kind_named(word: &[u8]) -> Option<Kind>

@@ -1,4 +1,4 @@
--- The rows of a flow shard's state: heights are of sort 0, excesses of sort 1 and flows of sort 2.
+-- The rows of a flow shard's state: heights, excesses and flows, each in a sort of its own.
 use Rattle.std.specs.Prelude.{ℤ, List, FitsSigned}
 use Rattle.std.specs.Int.{w64}
 use Rattle.std.proofs.Common.{sym, subst}

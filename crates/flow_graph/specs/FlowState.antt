@@ -47,15 +47,15 @@ state_of shard = record { kind = kind_number Flow; rows = flow_rows (numbers_of 
 abbrev pub has_row_in : FlowShard → ℕ → ℤ → Bool
 has_row_in shard sort k = map.contains_key (numbers_of shard sort) k
 
-abbrev pub room_for : Use → FlowShard → ℤ → Bool
-room_for Nothing shard k = true
-room_for (On sort Reads) shard k = true
-room_for (On sort Adds) shard k = has_row_in shard sort k
-room_for (On sort Sets) shard k = has_row_in shard sort k
+abbrev pub room_in_shard : Use → FlowShard → ℤ → Bool
+room_in_shard Nothing shard k = true
+room_in_shard (On sort Reads) shard k = true
+room_in_shard (On sort Adds) shard k = has_row_in shard sort k
+room_in_shard (On sort Sets) shard k = has_row_in shard sort k
 
 -- a call that writes has its row, so it is undone and done again in that row
 abbrev pub has_room_in : FlowShard → Made → Bool
-has_room_in shard made = room_for (flow_use made.call.method) shard made.call.a
+has_room_in shard made = room_in_shard (flow_use made.call.method) shard made.call.a
 
 -- a table is lean, where there is one
 abbrev pub IsLeanAt : Option (Box FlowNumbers) → ℕ → Type 0
@@ -75,8 +75,8 @@ dead_at None sort = 0
 dead_at (Some numbers) sort = dead_rows (sorted numbers.value sort)
 
 -- how many rows of a sort hold 0
-abbrev pub dead_in : FlowShard → ℕ → ℕ
-dead_in shard sort = dead_at shard.numbers sort
+abbrev pub dead_of_sort : FlowShard → ℕ → ℕ
+dead_of_sort shard sort = dead_at shard.numbers sort
 
 abbrev pub holds_flow : Kind → Bool
 holds_flow Flow = true
@@ -89,7 +89,7 @@ pub held-SuitKind : (kind : Kind) → IsTrue (holds_flow kind) → SuitKind (kin
 held-SuitKind kind held = tables_of-SuitKind kind
 
 pub foreign-has_room_in : (shard : FlowShard) (made : Made) → is_method (state_of shard).kind made.call.method ≡ false → IsTrue (has_room_in shard made)
-foreign-has_room_in shard made foreign = subst (λ u. IsTrue (room_for u shard made.call.a)) (sym (flow_use-foreign made.call.method foreign)) refl
+foreign-has_room_in shard made foreign = subst (λ u. IsTrue (room_in_shard u shard made.call.a)) (sym (flow_use-foreign made.call.method foreign)) refl
 
 fits_at : (numbers : Option (Box FlowNumbers)) (sort : ℕ) (k : ℤ) → FitsSigned w64 (number_in (rows_in numbers sort) k)
 fits_at None sort k = subst (λ (number : Option ℤ). FitsSigned w64 (unwrap_or number (pos 0))) (sym (map.get-empty int_cmp k)) (sfits_lit tt)

@@ -2,13 +2,14 @@ ghost use Rattle.std.specs.Prelude.{◌≡◌, ℕ, IsTrue, IsOk, IfOk, OnOk, On
 ghost use Rattle.std.specs.FinMap as map;
 ghost use Rattle.gx_base.specs.declared.calls.Made.{Made};
 ghost use Rattle.gx_base.specs.declared.kinds.Kind.TheVariants.{Flow};
+ghost use Rattle.gx_base.specs.FlowKind.{height_sort, excess_sort, flow_sort};
 ghost use Rattle.gx_base.specs.Kinds.{kind_number};
 ghost use Rattle.gx_base.specs.ShippedTables.{IsShipped};
 ghost use Rattle.gx_base.specs.States.{number_at, with_number};
 ghost use Rattle.gx_base.specs.Meanings.{number_reply as reply_of};
 ghost use Rattle.kind_tables.specs.TablesOfKinds.{tables_of};
 ghost use Rattle.flow_graph.specs.Uses.{sort_of};
-ghost use Rattle.flow_graph.specs.FlowState.{state_of, has_row_in, has_room_in, IsUnwritten, IsLeanIn, IsLeanShard, dead_in};
+ghost use Rattle.flow_graph.specs.FlowState.{state_of, has_row_in, has_room_in, IsUnwritten, IsLeanIn, IsLeanShard, dead_of_sort};
 
 use crate::numbers::FlowNumbers;
 use crate::shipping::flow_table;
@@ -38,21 +39,21 @@ impl FlowShard {
 
     /// The height of a node.
     pub fn height(&self, node: i64) -> i64
-        ensures { result ≡ number_at (state_of self.now) (0, node) }
+        ensures { result ≡ number_at (state_of self.now) (height_sort, node) }
     {
         self.value(Quantity::Height, node)
     }
 
     /// The excess of a node.
     pub fn excess(&self, node: i64) -> i64
-        ensures { result ≡ number_at (state_of self.now) (1, node) }
+        ensures { result ≡ number_at (state_of self.now) (excess_sort, node) }
     {
         self.value(Quantity::Excess, node)
     }
 
     /// The flow of an arc.
     pub fn flow(&self, arc: i64) -> i64
-        ensures { result ≡ number_at (state_of self.now) (2, arc) }
+        ensures { result ≡ number_at (state_of self.now) (flow_sort, arc) }
     {
         self.value(Quantity::Flow, arc)
     }
@@ -116,7 +117,7 @@ impl FlowShard {
     fn tidy_rows(&mut self)
         ensures state { state_of self.new ≡ state_of self.old }
         ensures lean { IsLeanShard self.new }
-        ensures dropped { (sort : ℕ) → ¬ (IsLeanIn self.old sort) → dead_in self.new sort ≡ 0 }
+        ensures dropped { (sort : ℕ) → ¬ (IsLeanIn self.old sort) → dead_of_sort self.new sort ≡ 0 }
         ensures idle { IsLeanShard self.old → self.new ≡ self.old }
     {
         match &mut self.numbers {
@@ -216,7 +217,7 @@ impl SeqType for FlowShard {
         ensures state { state_of self.new ≡ state_of self.old }
         ensures succeeds { IsOk result }
         ensures lean { IsLeanShard self.new }
-        ensures dropped { (sort : ℕ) → ¬ (IsLeanIn self.old sort) → dead_in self.new sort ≡ 0 }
+        ensures dropped { (sort : ℕ) → ¬ (IsLeanIn self.old sort) → dead_of_sort self.new sort ≡ 0 }
         ensures idle { IsLeanShard self.old → self.new ≡ self.old }
     {
         self.tidy_rows();

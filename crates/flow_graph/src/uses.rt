@@ -3,10 +3,11 @@ ghost use Rattle.std.specs.Prelude.{◌≡◌};
 ghost use Rattle.gx_base.specs.FlowKind.{flow_use};
 ghost use Rattle.flow_graph.specs.Uses.{sort_of, use_from};
 
+use gx_base::FLOW_METHODS;
 use kind_tables::register_rows::Deed;
 
 /// Reads the height of a node.
-pub const HEIGHT: u32 = 16;
+pub const HEIGHT: u32 = FLOW_METHODS;
 
 /// Sets the height of a node.
 pub const RELABEL: u32 = HEIGHT + 1;

@@ -1,4 +1,4 @@
--- Flow shards: heights stand in the rows of sort 0, excesses in sort 1, flows in sort 2.
+-- Flow shards: heights, excesses and flows, each in the rows of a sort of its own.
 use Rattle.std.specs.Prelude.{ℕ, ◌+◌, false, ◌==◌, if◌then◌else◌, [], ◌∷◌, codes}
 use Rattle.gx_base.specs.States.{HoldsNumbers}
 use Rattle.gx_base.specs.ObjectKinds.{ObjectKind}

@@ -72,8 +72,8 @@ point_deed method =
     else Nothing
 
 -- the row of the point that a call names
-abbrev pub place_of : Call → Option (List ℤ)
-place_of c = Some (c.b ∷ c.c ∷ c.d ∷ [])
+abbrev pub point_row_of : Call → Option (List ℤ)
+point_row_of c = Some (c.b ∷ c.c ∷ c.d ∷ [])
 
 -- a point has an id of at least 0, and no third coordinate
 abbrev pub may_add : Call → Bool
@@ -81,8 +81,8 @@ may_add c = not (int_lt c.a (pos 0)) && int_eq c.d (pos 0)
 
 -- what a method of points does
 abbrev pub point_action : PointDeed → Call → RowAction
-point_action Add c = Turn (may_add c) None (place_of c)
-point_action Remove c = Turn true (place_of c) None
+point_action Add c = Turn (may_add c) None (point_row_of c)
+point_action Remove c = Turn true (point_row_of c) None
 point_action At c = Ask (λ row. at_reply (spot_of c.a row))
 point_action Nearest c = Look (λ s. nearest_reply (nearest s (spot_of_call c)))
 point_action Nothing c = NoAction

@@ -3,6 +3,8 @@ use Rattle.std.specs.Prelude.{◌≡◌, ℕ, ◌==◌, if◌then◌else◌, Lis
 use Rattle.std.specs.FinMap as map
 use Rattle.gx_base.specs.declared.calls.Made.{Made}
 use Rattle.gx_base.specs.declared.acts.Step.{Step}
+use Rattle.gx_base.specs.declared.kinds.Kind.TheVariants.{Set}
+use Rattle.gx_base.specs.Kinds.{kind_number}
 use Rattle.gx_base.specs.States.{State}
 use Rattle.gx_base.specs.Steps.{next_state, reply_to, inverse, IsCall}
 
@@ -32,7 +34,7 @@ AreCalls (made ∷ mades) = IsCall made.call × AreCalls mades
 
 -- an empty set
 abbrev pub no_state : State
-no_state = record { kind = 0; rows = map.empty }
+no_state = record { kind = kind_number Set; rows = map.empty }
 
 -- the states of rooms by their numbers, from those of a list; a room past its end counts as empty
 abbrev pub in_rooms : List State → ℕ → State

@@ -36,16 +36,34 @@ const KINDS: [Kind; 5] = [
     Kind::Domains,
 ];
 
-/// The number of the first method of a kind, which the kind's others follow one after another.
+/// The first method of sets. A kind's other methods follow its first one after another.
+pub const SET_METHODS: u32 = 0;
+
+/// The first method of cells.
+pub const CELLS_METHODS: u32 = 8;
+
+/// The first method of flow shards.
+pub const FLOW_METHODS: u32 = 16;
+
+/// The first method of points.
+pub const POINT_METHODS: u32 = 32;
+
+/// The first method of domain books.
+pub const DOMAIN_METHODS: u32 = 48;
+
+/// No kind has more methods.
+pub const MOST_METHODS: u32 = 8;
+
+/// The number of the first method of a kind.
 fn first_method(kind: Kind) -> u32
     ensures { result ≡ methods.first_method (kind_number kind) }
 {
     match kind {
-        Kind::Set => 0,
-        Kind::Cells => 8,
-        Kind::Flow => 16,
-        Kind::Points => 32,
-        Kind::Domains => 48,
+        Kind::Set => SET_METHODS,
+        Kind::Cells => CELLS_METHODS,
+        Kind::Flow => FLOW_METHODS,
+        Kind::Points => POINT_METHODS,
+        Kind::Domains => DOMAIN_METHODS,
     }
 }
 
@@ -69,7 +87,7 @@ fn method_count(kind: Kind) -> u32
 }
 
 /// The first method among those from one number up to another that has this word.
-fn named(from: u32, end: u32, word: &str) -> Option<u32>
+fn first_with_word(from: u32, end: u32, word: &str) -> Option<u32>
     ensures { result ≡ find (λ method. bytes_eq (methods.word_of method) word.now) (range_with_len from (end - from)) }
 {
     (from..end).find(|method| word_of(*method) == word)
@@ -80,7 +98,7 @@ pub fn method_of(kind: Kind, word: &str) -> Option<u32>
     ensures { result ≡ methods.method_of (kind_number kind) word.now }
 {
     let first = first_method(kind);
-    named(first, first + method_count(kind), word)
+    first_with_word(first, first + method_count(kind), word)
 }
 
 /// The number of the method at a place, from 0, by rising number, and none past the last.

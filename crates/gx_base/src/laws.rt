@@ -121,7 +121,7 @@ pub fn codes_tell_room_views_apart()
     ensures { (view other : RoomView) → room_view_code.code view ≡ room_view_code.code other → view ≡ other }
 {}
 
-/// A kind has at most eight methods, and no two of them leave the same rest by eight.
+/// A kind has no more methods than a kind may have, and no two of them leave the same rest by that number.
 pub fn kinds_have_few_methods()
     ensures few { (kind : Kind) → length (words_of (kind_number kind)) ≤ most_methods }
     ensures apart { (kind : Kind) (method other : ℕ) → is_method (kind_number kind) method ≡ true → is_method (kind_number kind) other ≡ true

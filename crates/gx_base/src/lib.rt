@@ -29,7 +29,10 @@ pub use conditions::{Cond, Part, Side, Term, boxed, eval};
 pub use homed::Homed;
 pub use inputs::{InputFault, What};
 pub use items::Item;
-pub use kinds::{Choice, Kind, method_at, method_of, word_of};
+pub use kinds::{
+    CELLS_METHODS, Choice, DOMAIN_METHODS, FLOW_METHODS, Kind, MOST_METHODS, POINT_METHODS,
+    SET_METHODS, method_at, method_of, word_of,
+};
 pub use memory::NoMemory;
 pub use sequential::SeqType;
 pub use spots::{beyond, distance, square};

@@ -46,8 +46,7 @@ pub trait SeqType: Drop {
 
     /// Whether the call with its reply can be undone and done again.
     fn roomed(&self, call: Call, reply: Reply) -> bool
-        ensures room { result ≡ has_room self.now (record { call = call; reply = reply }) }
-        ensures foreign { is_method (state self.now).kind call.method ≡ false → IsTrue result };
+        ensures { result ≡ has_room self.now (record { call = call; reply = reply }) };
 
     /// Takes the call back: the state is the one before a call that made this reply.
     fn undo(&mut self, call: Call, reply: Reply)

@@ -5,6 +5,7 @@ ghost use Rattle.gx_base.specs.Conditions.{condition_of};
 ghost use Rattle.gx_base.specs.RowLists.{is_row_of, table_row_of, table_rows_of, buckets_of, bucket_number, table_rows_in, row_map_of, AreBuckets, IsRowPut, AgreeOn};
 
 use crate::conditions::Cond;
+use crate::kinds::MOST_METHODS;
 use crate::memory::NoMemory;
 use std::alloc::Global;
 use std::marker::Model;
@@ -46,11 +47,11 @@ impl Model for Table {
 fn bucket_at(first: u32, second: u32) -> usize
     ensures { result ≡ bucket_number (first, second) }
 {
-    (first % 8) as usize * 8 + (second % 8) as usize
+    (first % MOST_METHODS) as usize * MOST_METHODS as usize + (second % MOST_METHODS) as usize
 }
 
 /// The place of the row of two methods.
-fn place_of(rows: &[Row], first: u32, second: u32) -> Option<usize>
+fn pair_index(rows: &[Row], first: u32, second: u32) -> Option<usize>
     ensures { result ≡ position_from (is_row_of first second) 0 rows.now }
 {
     rows.iter()
@@ -62,7 +63,7 @@ fn put_row(rows: &mut Vec<Row>, row: Row) -> Result<(), NoMemory>
     ensures ok { OnOk result (IsRowPut rows.old.items row rows.new.items) }
     ensures err { OnErr result (rows.new.items ≡ rows.old.items) }
 {
-    match place_of(rows, row.first, row.second) {
+    match pair_index(rows, row.first, row.second) {
         Some(place) => rows[place] = row,
         None => rows.push(row)?,
     }
@@ -188,7 +189,7 @@ impl Table {
         let number = bucket_at(first, second);
         if number < self.buckets.len() {
             let rows = &self.buckets[number];
-            if let Some(place) = place_of(rows, first, second) {
+            if let Some(place) = pair_index(rows, first, second) {
                 return &rows[place].cond;
             }
         }

@@ -52,7 +52,7 @@ impl MemFiles {
         ensures absent { IsFalse result → file_of self.old name.now ≡ None }
         ensures unchanged { IsFalse result → self.new ≡ self.old }
     {
-        match place_of(&self.files, name) {
+        match file_index(&self.files, name) {
             Some(place) => {
                 self.started = Some(place);
                 self.at = 0;
@@ -149,7 +149,7 @@ impl Files for MemFiles {
 }
 
 /// The place of the first file of this name.
-fn place_of(files: &[(String, Vec<u8>)], name: &str) -> Option<usize>
+fn file_index(files: &[(String, Vec<u8>)], name: &str) -> Option<usize>
     ensures { MatchOption result (bytes_of files.now name.now ≡ None) (λ place. bytes_of files.now name.now ≡ Some (bytes_at files.now place)) }
 {
     for (place, (file, _)) in files.iter().enumerate() {

@@ -9,6 +9,8 @@ use Rattle.std.specs.declared.cmp.Ordering.{Ordering}
 use Rattle.std.specs.declared.cmp.Ordering.TheVariants.{Less, Equal, Greater}
 use Rattle.gx_base.specs.declared.acts.Entry.{Entry}
 use Rattle.gx_base.specs.declared.items.Item.{Item}
+use Rattle.gx_base.specs.declared.kinds.Kind.TheVariants.{Set}
+use Rattle.gx_base.specs.Kinds.{kind_number}
 use Rattle.gx_base.specs.Plans.{Operator}
 use Rattle.gx_base.specs.RoomViews.{is_book}
 use Rattle.gx_base.specs.SetKind.{IsMark}
@@ -28,7 +30,7 @@ use Rattle.speculation.specs.RunResults.{IsSerialInTheEnd}
 use Rattle.speculation.specs.ScheduledRuns.{is_empty, Run, played}
 use Rattle.speculation.specs.Sessions.{Session}
 use Rattle.speculation.proofs.Putting.{no_bool, same_number, numbers_equal}
-use Rattle.rooms.specs.RoomsViews.{RoomsView, is_held, entries_for}
+use Rattle.rooms.specs.RoomsViews.{RoomsView, is_room_held, entries_for}
 use Rattle.rooms.specs.Values.{tells}
 use Rattle.rooms.specs.Visits.{AreTold, everyone}
 use Rattle.rooms.specs.declared.values.Value.{Value}
@@ -66,7 +68,7 @@ in_order (x ∷ xs) h = (least_of_after x xs h.0, in_order xs h.1)
 no_rows : row_of map.empty ≡ false_rows
 no_rows = λ i first second. row_of-empty first second i
 
-none_valid : IsValid 0 false_rows
+none_valid : IsValid (kind_number Set) false_rows
 none_valid = record {
   swaps = λ s a b e h fa fb t. absurd (cc);
   sees_first = λ s a b e h fa fb t l. absurd (cc);
@@ -76,8 +78,8 @@ none_valid = record {
 pub no_gate_is_new : IsNewGate no_gate
 no_gate_is_new = record {
   lawful = record {
-    valid = subst (IsValid 0) (sym no_rows) none_valid;
-    keeps_to_kind = subst (KeepsToKind 0) (sym no_rows) (λ first second f. refl);
+    valid = subst (IsValid (kind_number Set)) (sym no_rows) none_valid;
+    keeps_to_kind = subst (KeepsToKind (kind_number Set)) (sym no_rows) (λ first second f. refl);
     stands = record { of_kind = refl; is_state = λ key. subst IsMark (sym (map.get-empty row_cmp key)) tt };
     done_calls = tt;
     live_calls = tt;
@@ -150,7 +152,7 @@ module _ {T S : Type 0} (op : Operator) (a : RoomsView (Value T S)) (told : AreT
   told_log : (room worker : ℕ) (o : Option (Value T S)) → IsNewGateIn o → IfTold o (λ value. IsLogOf room (begun_view worker) (gate_of value).live)
   told_log room worker o h = subst (λ (x : Option (Value T S)). IfTold x (λ value. IsLogOf room (begun_view worker) (gate_of value).live)) (sym h.is_there) (no_log room worker h.gate.live h.no_live)
 
-  pub may_begin : a.acts_for ≡ everyone → ((room : ℕ) → is_held a room ≡ false) → (worker : ℕ) → MayTurn op a worker (begun_view worker)
+  pub may_begin : a.acts_for ≡ everyone → ((room : ℕ) → is_room_held a room ≡ false) → (worker : ℕ) → MayTurn op a worker (begun_view worker)
   may_begin acts free worker = record {
     worker_is = refl;
     closed = refl;
@@ -222,7 +224,7 @@ module _ {O St : Type 0} (rest : Rests St) where
     pub begun_is : (xs : List (CodeSession O St)) → AreBegun rest xs → machine_of a (sessions_of rest xs) ≡ begun_machine op.rooms a.told
     begun_is xs h = λ i. record { gates = λ room. gate_in (a.told room); book = book_in (a.told (book_last op a told new i)); sessions = λ worker. begun_sessions xs h worker i }
 
-    pub all_begin : (xs : List (CodeSession O St)) → AreBegun rest xs → a.acts_for ≡ everyone → ((room : ℕ) → is_held a room ≡ false) → MayAllTurn op a rest xs
+    pub all_begin : (xs : List (CodeSession O St)) → AreBegun rest xs → a.acts_for ≡ everyone → ((room : ℕ) → is_room_held a room ≡ false) → MayAllTurn op a rest xs
     all_begin xs h acts free = λ worker s e. subst (MayTurn op a worker) (sym (h worker s e)) (may_begin op a told new acts free worker)
 
   pub one_more_begun : (xs : List (CodeSession O St)) (x : CodeSession O St) → AreBegun rest xs → view_of rest x ≡ begun_view (length xs) → AreBegun rest (xs ++ x ∷ [])

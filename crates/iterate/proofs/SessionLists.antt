@@ -5,7 +5,7 @@ use Rattle.std.proofs.lemmas.Option.{same_Some}
 use Rattle.gx_base.specs.Plans.{Operator}
 use Rattle.gx_base.specs.Replays.{put}
 use Rattle.speculation.proofs.Putting.{no_bool, same_number, numbers_equal}
-use Rattle.rooms.specs.RoomsViews.{RoomsView, is_held}
+use Rattle.rooms.specs.RoomsViews.{RoomsView, is_room_held}
 use Rattle.rooms.specs.declared.values.Value.{Value}
 use Rattle.rooms.proofs.CallerLemmas.{get_set, get_other, numbers_differ}
 use Rattle.sessions.specs.declared.session.Session.{Session as CodeSession}
@@ -51,7 +51,7 @@ module _ {O St : Type 0} (rest : Rests St) where
     all_set b xs place x h mine others = λ worker u e. all_by b xs place x h mine others worker u e (worker == place) refl
 
     -- no room is held
-    pub all_free : (a : RoomsView (Value T S)) (xs : List (CodeSession O St)) → 0 < length xs → MayAllTurn op a rest xs → (room : ℕ) → is_held a room ≡ false
+    pub all_free : (a : RoomsView (Value T S)) (xs : List (CodeSession O St)) → 0 < length xs → MayAllTurn op a rest xs → (room : ℕ) → is_room_held a room ≡ false
     all_free a xs h all = let x = first_there xs h in free_of op a 0 (view_of rest x.0) (all 0 x.0 x.1)
 
     pub book_is : (a : RoomsView (Value T S)) (xs : List (CodeSession O St)) → 0 < length xs → MayAllTurn op a rest xs → a.book ≡ op.rooms

@@ -18,7 +18,7 @@ use Rattle.speculation.specs.Machines.{Machine, Place, place_of, settled, answer
 use Rattle.speculation.specs.Premises.{IsNextCall, AsksCall}
 use Rattle.speculation.specs.Sessions.{Session, Phase, Idle, Running, Finished, Undoing, ahead}
 use Rattle.speculation.proofs.Putting.{no_bool, same_number}
-use Rattle.rooms.specs.RoomsViews.{RoomsView, is_held}
+use Rattle.rooms.specs.RoomsViews.{RoomsView, is_room_held}
 use Rattle.rooms.specs.HandedOut.{CountHasRisen}
 use Rattle.rooms.specs.Values.{tells}
 use Rattle.rooms.specs.Visits.{AreTold}
@@ -172,14 +172,14 @@ module _ {T S : Type 0} where
 
   -- ---- the other sessions
 
-  none_held : (op : Operator) (a : RoomsView (Value T S)) (s : SessionView) (opened : Option OpenCommit) → opened ≡ None → IsFitIn op a s opened → (room : ℕ) → is_held a room ≡ false
+  none_held : (op : Operator) (a : RoomsView (Value T S)) (s : SessionView) (opened : Option OpenCommit) → opened ≡ None → IsFitIn op a s opened → (room : ℕ) → is_room_held a room ≡ false
   none_held op a s None n h = h.0
   none_held op a s (Some made) n h = absurd (cc)
 
-  pub free_of : (op : Operator) (a : RoomsView (Value T S)) (worker : ℕ) (s : SessionView) → MayTurn op a worker s → (room : ℕ) → is_held a room ≡ false
+  pub free_of : (op : Operator) (a : RoomsView (Value T S)) (worker : ℕ) (s : SessionView) → MayTurn op a worker s → (room : ℕ) → is_room_held a room ≡ false
   free_of op a worker s h = none_held op a s s.opened h.closed h.fit.doing
 
-  doing_by : (op : Operator) (a b : RoomsView (Value T S)) (s : SessionView) (opened : Option OpenCommit) → opened ≡ None → ((room : ℕ) → is_held b room ≡ false) → IsFitIn op a s opened → IsFitIn op b s opened
+  doing_by : (op : Operator) (a b : RoomsView (Value T S)) (s : SessionView) (opened : Option OpenCommit) → opened ≡ None → ((room : ℕ) → is_room_held b room ≡ false) → IsFitIn op a s opened → IsFitIn op b s opened
   doing_by op a b s None n free h = (free, h.1)
   doing_by op a b s (Some made) n free h = absurd (cc)
 

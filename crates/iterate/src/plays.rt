@@ -2,7 +2,7 @@ ghost use Rattle.std.specs.Prelude.{◌≡◌, ◌⊎◌, ◌<◌, ◌≤◌, �
 ghost use Rattle.commit_book.specs.SerialRuns.{operator_of};
 ghost use Rattle.speculation.specs.Limits.{Limit};
 ghost use Rattle.speculation.specs.ScheduledRuns.{AllBelow};
-ghost use Rattle.rooms.specs.RoomsViews.{is_held};
+ghost use Rattle.rooms.specs.RoomsViews.{is_room_held};
 ghost use Rattle.rooms.specs.Values.{tells};
 ghost use Rattle.rooms.specs.Visits.{AreTold, view_of};
 ghost use Rattle.rooms.specs.declared.values.Value.{Value};
@@ -92,7 +92,7 @@ fn play_on<O: Operator, T: SeqType, S: Screen<T>>(
     ensures run { OnOk result (IsPlayedRun (operator_of O.Operator op.now) (machine_of (view_of tells rooms.old) (sessions_of (O.rest op.now) sessions.old)) workers schedule.now (run_of (view_of tells rooms.new) (sessions_of (O.rest op.now) sessions.new) trace.new.items)) }
     ensures tells_right { OnOk result (ConflictsTellRight (operator_of O.Operator op.now) (machine_of (view_of tells rooms.old) (sessions_of (O.rest op.now) sessions.old)) schedule.now trace.new.items) }
     ensures stopped { (limit : Limit) → result ≡ Err (stop_of limit) → PassesFirst (operator_of O.Operator op.now) (machine_of (view_of tells rooms.old) (sessions_of (O.rest op.now) sessions.old)) workers schedule.now limit }
-    ensures free { OnOk result ((room : ℕ) → is_held (view_of tells rooms.new) room ≡ false) }
+    ensures free { OnOk result ((room : ℕ) → is_room_held (view_of tells rooms.new) room ≡ false) }
     ensures told { OnOk result (AreTold tells (view_of tells rooms.new)) }
     ensures book { OnOk result ((view_of tells rooms.new).book ≡ O.room_count op.now) }
 {
@@ -113,7 +113,7 @@ pub fn play<O: Operator, T: SeqType, S: Screen<T>>(
     schedule: &[u32],
 ) -> Result<Played<T, S>, Stop>
     requires unordered { O.is_ordered op.now ≡ false }
-    requires free { (room : ℕ) → is_held (view_of tells rooms) room ≡ false }
+    requires free { (room : ℕ) → is_room_held (view_of tells rooms) room ≡ false }
     requires new { AreNewFor (operator_of O.Operator op.now) (view_of tells rooms).told }
     requires workers { 1 ≤ workers }
     requires schedule { AllBelow schedule.now workers }

@@ -3,7 +3,7 @@ ghost use Rattle.commit_book.specs.SerialRuns.{operator_of};
 ghost use Rattle.gx_base.specs.Meanings.{IsCall};
 ghost use Rattle.speculation.specs.Events.{then_turn};
 ghost use Rattle.speculation.specs.ScheduledRuns.{is_empty};
-ghost use Rattle.rooms.specs.RoomsViews.{is_held};
+ghost use Rattle.rooms.specs.RoomsViews.{is_room_held};
 ghost use Rattle.rooms.specs.Values.{tells};
 ghost use Rattle.rooms.specs.Visits.{AreTold, view_of as rooms_view};
 ghost use Rattle.sessions.specs.EventViews.{turns_of};
@@ -23,7 +23,7 @@ use sessions::{Event, Session, Stop, Turn};
 /// Whether no item is ready.
 #[inline(always)]
 pub fn nothing_is_ready<T: SeqType, S: Screen<T>>(rooms: &VecRooms<Value<T, S>>) -> bool
-    requires { (room : ℕ) → is_held (rooms_view tells rooms.now) room ≡ false }
+    requires { (room : ℕ) → is_room_held (rooms_view tells rooms.now) room ≡ false }
     ensures { result ≡ is_empty (book_in ((rooms_view tells rooms.now).told (rooms_view tells rooms.now).book)).ready }
 {
     match rooms.values().get(rooms.book() as usize) {

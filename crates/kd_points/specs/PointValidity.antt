@@ -6,12 +6,14 @@ use Rattle.std.specs.Ordering.{int_eq}
 use Rattle.gx_base.specs.declared.calls.Call.{Call}
 use Rattle.gx_base.specs.declared.calls.Spot.{Spot}
 use Rattle.gx_base.specs.declared.calls.Seen.{Seen}
+use Rattle.gx_base.specs.declared.kinds.Kind.TheVariants.{Points}
+use Rattle.gx_base.specs.Kinds.{kind_number}
 use Rattle.gx_base.specs.Conditions.{holds}
 use Rattle.gx_base.specs.States.{State, row_at, with_row}
 use Rattle.gx_base.proofs.CallerLemmas.{row_at-same, written_back, same_content-is, IsBelow-itself, False-IsBelow, point_deed-foreign}
 use Rattle.gx_base.specs.Spots.{beyond, spot_of_call, spot_of_reply}
 use Rattle.gx_base.specs.RowActions.{RowAction, Turn, Look, action_next, action_reply, turns}
-use Rattle.gx_base.specs.PointKind.{PointDeed, Add, Remove, At, Nearest, Nothing, point_deed, point_action, may_add, point_meaning, place_of, nearest, nearest_reply, spot_of, HoldsPlaces}
+use Rattle.gx_base.specs.PointKind.{PointDeed, Add, Remove, At, Nearest, Nothing, point_deed, point_action, may_add, point_meaning, point_row_of, nearest, nearest_reply, spot_of, HoldsPlaces}
 use Rattle.kd_points.specs.NearestPoints.{Avoids, Behind, beyond-back, nearest-own, nearest-with, nearest-without}
 use Rattle.kind_tables.proofs.CallerLemmas.{SwapsBy, effect_in, first_still, second_still, both_still, same_int, either, both, not_true, int_eq-comm, IsNear, Pair, two_turns, turn_first, turn_second, turn_still, pair_swaps, action_effect, TableLaws, valid_from, TableFacts, NoneIsFalse, keeps}
 use Rattle.gx_base.specs.Below.{IsBelow}
@@ -82,14 +84,14 @@ look_second : (s : State) (q : Spot) (x y : ℤ) (act : RowAction) → nearest s
 look_second s q x y act e = second_still (action_effect act x) (action_effect (Look (λ u. nearest_reply (nearest u q))) y) s refl refl (ap nearest_reply e)
 
 -- the four hard pairs
-abbrev pub Row : (d e : PointDeed) (s : State) (a b : Call) (seen : Seen) → Type 0
-Row d e s a b seen = holds (precise_point d e) (record { call = a; reply = action_reply (point_action d a) s a.a }) (record { call = b; reply = action_reply (point_action e b) (action_next (point_action d a) s a.a) b.a }) seen ≡ true
+abbrev pub RowHolds : (d e : PointDeed) (s : State) (a b : Call) (seen : Seen) → Type 0
+RowHolds d e s a b seen = holds (precise_point d e) (record { call = a; reply = action_reply (point_action d a) s a.a }) (record { call = b; reply = action_reply (point_action e b) (action_next (point_action d a) s a.a) b.a }) seen ≡ true
 
 -- two calls of points may be swapped in s
 abbrev pub PointsSwap : (d e : PointDeed) (s : State) (a b : Call) → Type 0
 PointsSwap d e s a b = SwapsBy (action_effect (point_action d a) a.a) (action_effect (point_action e b) b.a) s
 
-nearest_add : (s : State) (a b : Call) (seen : Seen) → Row Nearest Add s a b seen → PointsSwap Nearest Add s a b
+nearest_add : (s : State) (a b : Call) (seen : Seen) → RowHolds Nearest Add s a b seen → PointsSwap Nearest Add s a b
 nearest_add s a b seen t = by_words (either _ _ t)
   where
     q : Spot
@@ -105,16 +107,16 @@ nearest_add s a b seen t = by_words (either _ _ t)
     o = nearest s q
 
     by_ids : (int_eq (action_reply add s b.a).p (pos 0) ≡ true) ⊎ (int_eq a.a b.a ≡ true) → nearest (action_next add s b.a) q ≡ nearest s q
-    by_ids (inl e) = ap (λ u. nearest u q) (turn_still allowed None (place_of b) s b.a e)
-    by_ids (inr e) = own_kept s q b.a allowed None (place_of b) e
+    by_ids (inl e) = ap (λ u. nearest u q) (turn_still allowed None (point_row_of b) s b.a e)
+    by_ids (inr e) = own_kept s q b.a allowed None (point_row_of b) e
 
     by_words : ((int_eq (action_reply add s b.a).p (pos 0) || int_eq a.a b.a) ≡ true)
         ⊎ ((not (int_eq (nearest_reply o).p no_point) && int_eq (if beyond q (spot_of_call b) (spot_of_reply (nearest_reply o)) then pos 1 else pos 0) (pos 1)) ≡ true)
         → PointsSwap Nearest Add s a b
     by_words (inl e) = look_first s q a.a b.a add (by_ids (either _ _ e))
-    by_words (inr e) = look_first s q a.a b.a add (add_kept s q b.a allowed (place_of b) (behind_of q (spot_of_call b) o e))
+    by_words (inr e) = look_first s q a.a b.a add (add_kept s q b.a allowed (point_row_of b) (behind_of q (spot_of_call b) o e))
 
-add_nearest : (s : State) (a b : Call) (seen : Seen) → Row Add Nearest s a b seen → PointsSwap Add Nearest s a b
+add_nearest : (s : State) (a b : Call) (seen : Seen) → RowHolds Add Nearest s a b seen → PointsSwap Add Nearest s a b
 add_nearest s a b seen t = look_second s q a.a b.a add (by_words (either _ _ t))
   where
     q : Spot
@@ -133,10 +135,10 @@ add_nearest s a b seen t = look_second s q a.a b.a add (by_words (either _ _ t))
     turned_about x y e = ap not (int_eq-comm y x) ∙ e
 
     by_words : (int_eq (action_reply add s a.a).p (pos 0) ≡ true) ⊎ (not (int_eq a.a (nearest_reply o).p) ≡ true) → nearest s q ≡ nearest (action_next add s a.a) q
-    by_words (inl e) = ap (λ u. nearest u q) (sym (turn_still allowed None (place_of a) s a.a e))
-    by_words (inr e) = add_undone s q a.a allowed (place_of a) (avoids_of o a.a (turned_about a.a (nearest_reply o).p e))
+    by_words (inl e) = ap (λ u. nearest u q) (sym (turn_still allowed None (point_row_of a) s a.a e))
+    by_words (inr e) = add_undone s q a.a allowed (point_row_of a) (avoids_of o a.a (turned_about a.a (nearest_reply o).p e))
 
-nearest_remove : (s : State) (a b : Call) (seen : Seen) → Row Nearest Remove s a b seen → PointsSwap Nearest Remove s a b
+nearest_remove : (s : State) (a b : Call) (seen : Seen) → RowHolds Nearest Remove s a b seen → PointsSwap Nearest Remove s a b
 nearest_remove s a b seen t = look_first s q a.a b.a remove (by_words (either _ _ t))
   where
     q : Spot
@@ -149,10 +151,10 @@ nearest_remove s a b seen t = look_first s q a.a b.a remove (by_words (either _ 
     o = nearest s q
 
     by_words : (int_eq (action_reply remove s b.a).p (pos 0) ≡ true) ⊎ (not (int_eq (nearest_reply o).p b.a) ≡ true) → nearest (action_next remove s b.a) q ≡ nearest s q
-    by_words (inl e) = ap (λ u. nearest u q) (turn_still true (place_of b) None s b.a e)
-    by_words (inr e) = remove_kept s q b.a true (place_of b) (avoids_of o b.a e)
+    by_words (inl e) = ap (λ u. nearest u q) (turn_still true (point_row_of b) None s b.a e)
+    by_words (inr e) = remove_kept s q b.a true (point_row_of b) (avoids_of o b.a e)
 
-remove_nearest : (s : State) (a b : Call) (seen : Seen) → Row Remove Nearest s a b seen → PointsSwap Remove Nearest s a b
+remove_nearest : (s : State) (a b : Call) (seen : Seen) → RowHolds Remove Nearest s a b seen → PointsSwap Remove Nearest s a b
 remove_nearest s a b seen t = look_second s q a.a b.a remove (by_words (either _ _ t))
   where
     q : Spot
@@ -165,14 +167,14 @@ remove_nearest s a b seen t = look_second s q a.a b.a remove (by_words (either _
     o = nearest (action_next remove s a.a) q
 
     by_ids : (int_eq (action_reply remove s a.a).p (pos 0) ≡ true) ⊎ (int_eq a.a b.a ≡ true) → nearest s q ≡ nearest (action_next remove s a.a) q
-    by_ids (inl e) = ap (λ u. nearest u q) (sym (turn_still true (place_of a) None s a.a e))
-    by_ids (inr e) = sym (own_kept s q a.a true (place_of a) None (int_eq-comm b.a a.a ∙ e))
+    by_ids (inl e) = ap (λ u. nearest u q) (sym (turn_still true (point_row_of a) None s a.a e))
+    by_ids (inr e) = sym (own_kept s q a.a true (point_row_of a) None (int_eq-comm b.a a.a ∙ e))
 
     by_words : ((int_eq (action_reply remove s a.a).p (pos 0) || int_eq a.a b.a) ≡ true)
         ⊎ ((not (int_eq (nearest_reply o).p no_point) && int_eq (if beyond q (spot_of_call a) (spot_of_reply (nearest_reply o)) then pos 1 else pos 0) (pos 1)) ≡ true)
         → nearest s q ≡ nearest (action_next remove s a.a) q
     by_words (inl e) = by_ids (either _ _ e)
-    by_words (inr e) = remove_undone s q a.a true (place_of a) (behind_of q (spot_of_call a) o e)
+    by_words (inr e) = remove_undone s q a.a true (point_row_of a) (behind_of q (spot_of_call a) o e)
 
 -- the pairs that use one row each
 abbrev pub PointPair : (d e : PointDeed) (s : State) (a b : Call) → Type 0
@@ -181,19 +183,19 @@ PointPair d e s a b = Pair s a.a b.a (point_action d a) (point_action e b)
 near_swaps : (d e : PointDeed) (s : State) (a b : Call) → IsNear (point_action d a) → IsNear (point_action e b) → PointPair d e s a b → PointsSwap d e s a b
 near_swaps d e s a b f g h = pair_swaps s a.a b.a (point_action d a) (point_action e b) f g h
 
-swaps_by : (d e : PointDeed) (s : State) (a b : Call) (seen : Seen) → Row d e s a b seen → PointsSwap d e s a b
-swaps_by Add Add s a b seen t = near_swaps Add Add s a b tt tt (two_turns s a.a b.a (may_add a) (may_add b) None (place_of a) None (place_of b) t)
-swaps_by Add Remove s a b seen t = near_swaps Add Remove s a b tt tt (two_turns s a.a b.a (may_add a) true None (place_of a) (place_of b) None t)
-swaps_by Add At s a b seen t = near_swaps Add At s a b tt tt (turn_first s a.a b.a (may_add a) None (place_of a) (point_action At b) refl t)
+swaps_by : (d e : PointDeed) (s : State) (a b : Call) (seen : Seen) → RowHolds d e s a b seen → PointsSwap d e s a b
+swaps_by Add Add s a b seen t = near_swaps Add Add s a b tt tt (two_turns s a.a b.a (may_add a) (may_add b) None (point_row_of a) None (point_row_of b) t)
+swaps_by Add Remove s a b seen t = near_swaps Add Remove s a b tt tt (two_turns s a.a b.a (may_add a) true None (point_row_of a) (point_row_of b) None t)
+swaps_by Add At s a b seen t = near_swaps Add At s a b tt tt (turn_first s a.a b.a (may_add a) None (point_row_of a) (point_action At b) refl t)
 swaps_by Add Nearest s a b seen t = add_nearest s a b seen t
 swaps_by Add Nothing s a b seen t = absurd (cc)
-swaps_by Remove Add s a b seen t = near_swaps Remove Add s a b tt tt (two_turns s a.a b.a true (may_add b) (place_of a) None None (place_of b) t)
-swaps_by Remove Remove s a b seen t = near_swaps Remove Remove s a b tt tt (two_turns s a.a b.a true true (place_of a) None (place_of b) None t)
-swaps_by Remove At s a b seen t = near_swaps Remove At s a b tt tt (turn_first s a.a b.a true (place_of a) None (point_action At b) refl t)
+swaps_by Remove Add s a b seen t = near_swaps Remove Add s a b tt tt (two_turns s a.a b.a true (may_add b) (point_row_of a) None None (point_row_of b) t)
+swaps_by Remove Remove s a b seen t = near_swaps Remove Remove s a b tt tt (two_turns s a.a b.a true true (point_row_of a) None (point_row_of b) None t)
+swaps_by Remove At s a b seen t = near_swaps Remove At s a b tt tt (turn_first s a.a b.a true (point_row_of a) None (point_action At b) refl t)
 swaps_by Remove Nearest s a b seen t = remove_nearest s a b seen t
 swaps_by Remove Nothing s a b seen t = absurd (cc)
-swaps_by At Add s a b seen t = near_swaps At Add s a b tt tt (turn_second s a.a b.a (point_action At a) (may_add b) None (place_of b) refl t)
-swaps_by At Remove s a b seen t = near_swaps At Remove s a b tt tt (turn_second s a.a b.a (point_action At a) true (place_of b) None refl t)
+swaps_by At Add s a b seen t = near_swaps At Add s a b tt tt (turn_second s a.a b.a (point_action At a) (may_add b) None (point_row_of b) refl t)
+swaps_by At Remove s a b seen t = near_swaps At Remove s a b tt tt (turn_second s a.a b.a (point_action At a) true (point_row_of b) None refl t)
 swaps_by At At s a b seen t = both_still _ _ s refl refl
 swaps_by At Nearest s a b seen t = both_still _ _ s refl refl
 swaps_by At Nothing s a b seen t = absurd (cc)
@@ -255,11 +257,11 @@ readers_below_point Nearest Nearest = IsBelow-itself _
 readers_below_point Nearest Nothing = False-IsBelow _
 readers_below_point Nothing e = False-IsBelow _
 
-pub point_facts : TableFacts 3 point_tables
+pub point_facts : TableFacts (kind_number Points) point_tables
 point_facts = record {
-  valid = valid_from 3 point_tables.precise point_table;
-  keeps_to_kind = keeps 3 Nothing point_deed point_deed-foreign precise_point point_none;
+  valid = valid_from (kind_number Points) point_tables.precise point_table;
+  keeps_to_kind = keeps (kind_number Points) Nothing point_deed point_deed-foreign precise_point point_none;
   strengthened = λ first second. point_strengthened (point_deed first) (point_deed second);
   readers_below = λ first second. readers_below_point (point_deed first) (point_deed second);
-  readers_keep_to_kind = keeps 3 Nothing point_deed point_deed-foreign reader_writer_point reader_writer_none;
+  readers_keep_to_kind = keeps (kind_number Points) Nothing point_deed point_deed-foreign reader_writer_point reader_writer_none;
 }

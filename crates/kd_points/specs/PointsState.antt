@@ -54,16 +54,16 @@ change_of added c = if added then point_action Add c else point_action Remove c
 abbrev pub changed_room : Bool → Reply → Bool
 changed_room there reply = if int_eq reply.p (pos 1) then there else true
 
-abbrev pub room_for : PointDeed → Bool → Reply → Bool
-room_for Add there reply = changed_room there reply
-room_for Remove there reply = changed_room there reply
-room_for At there reply = true
-room_for Nearest there reply = true
-room_for Nothing there reply = true
+abbrev pub room_in_points : PointDeed → Bool → Reply → Bool
+room_in_points Add there reply = changed_room there reply
+room_in_points Remove there reply = changed_room there reply
+room_in_points At there reply = true
+room_in_points Nearest there reply = true
+room_in_points Nothing there reply = true
 
 -- a call that changed a node has it, so it is undone and done again by a mark
 abbrev pub has_points_room : KdPoints → Made → Bool
-has_points_room points made = room_for (point_deed made.call.method) (has_node points.tree (spot_of_call made.call)) made.reply
+has_points_room points made = room_in_points (point_deed made.call.method) (has_node points.tree (spot_of_call made.call)) made.reply
 
 -- how many nodes hold no point
 abbrev pub dead_nodes_of : KdPoints → ℕ
@@ -84,7 +84,7 @@ holds_points _ = false
 -- What follows is what the object says of every value. It stands here since that takes nothing from this crate's proofs.
 
 pub foreign-has_points_room : (points : KdPoints) (made : Made) → is_method (points_state points).kind made.call.method ≡ false → IsTrue (has_points_room points made)
-foreign-has_points_room points made foreign = subst (λ d. IsTrue (room_for d (has_node points.tree (spot_of_call made.call)) made.reply)) (sym (point_deed-foreign made.call.method foreign)) refl
+foreign-has_points_room points made foreign = subst (λ d. IsTrue (room_in_points d (has_node points.tree (spot_of_call made.call)) made.reply)) (sym (point_deed-foreign made.call.method foreign)) refl
 
 pub points_state-IsState : (points : KdPoints) → IsState (points_state points)
 points_state-IsState points key = tree_state-HoldsPlaces points.tree points.sound key

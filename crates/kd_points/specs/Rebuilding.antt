@@ -8,7 +8,7 @@ use Rattle.slab.specs.Slab.{slab_len}
 use Rattle.kd_points.specs.declared.rebuild.TheConstants.{LEAST_REBUILT}
 use Rattle.kd_points.specs.declared.nodes.Seat.{Seat}
 use Rattle.kd_points.specs.declared.tree.Tree.{Tree}
-use Rattle.kd_points.specs.Trees.{IsSeat, depth_of}
+use Rattle.kd_points.specs.Trees.{IsSeat, node_depth}
 use Rattle.kd_points.specs.TreeStates.{node_at, tree_state, dead_nodes, IsSound, NoPoint, NoneBare}
 
 -- this is a point of the tree
@@ -40,13 +40,13 @@ pub record Gathers (old new : Tree) (spots : List Spot) : Type 0 where
 
 -- so many nodes are new: they stand no deeper below this depth than halving so many takes, and the others as before
 pub record IsLow (old new : Tree) (depth count : ℕ) : Type 0 where
-  pub fresh : (j d : ℕ) → depth_of (node_at new j) ≡ Some d → (depth_of (node_at old j) ≡ Some d) ⊎ ((e : ℕ) × (d ≡ depth + e) × (2 ^ e ≤ count))
-  pub stay : (j d : ℕ) → depth_of (node_at old j) ≡ Some d → depth_of (node_at new j) ≡ Some d
+  pub fresh : (j d : ℕ) → node_depth (node_at new j) ≡ Some d → (node_depth (node_at old j) ≡ Some d) ⊎ ((e : ℕ) × (d ≡ depth + e) × (2 ^ e ≤ count))
+  pub stay : (j d : ℕ) → node_depth (node_at old j) ≡ Some d → node_depth (node_at new j) ≡ Some d
   pub size : slab_len new.nodes ≡ slab_len old.nodes + count
 
 -- no node stands deeper than halving the nodes takes
 abbrev pub IsBalancedTree : Tree → Type 0
-IsBalancedTree tree = (j d : ℕ) → depth_of (node_at tree j) ≡ Some d → 2 ^ d ≤ slab_len tree.nodes
+IsBalancedTree tree = (j d : ℕ) → node_depth (node_at tree j) ≡ Some d → 2 ^ d ≤ slab_len tree.nodes
 
 -- the new tree has the same points, and no dead nodes; no node counts as put in by itself, and none stands deep
 pub record IsRebuilt (old new : Tree) : Type 0 where

@@ -14,5 +14,5 @@ pub point_tables-SuitKind : (kind : Kind) → IsTrue (holds_points kind) → Sui
 point_tables-SuitKind Set held = absurd (cc)
 point_tables-SuitKind Cells held = absurd (cc)
 point_tables-SuitKind Flow held = absurd (cc)
-point_tables-SuitKind Points held = tables-SuitKind 3 point_tables point_facts
+point_tables-SuitKind Points held = tables-SuitKind (kind_number Points) point_tables point_facts
 point_tables-SuitKind Domains held = absurd (cc)

@@ -5,6 +5,8 @@ use Rattle.std.proofs.Common.{sym, subst}
 use Rattle.std.specs.Cmp.{signed_Decides}
 use Rattle.std.specs.FinMap as map
 use Rattle.std.specs.Ordering.{int_eq}
+use Rattle.gx_base.specs.declared.kinds.Kind.TheVariants.{Points}
+use Rattle.gx_base.specs.Kinds.{kind_number}
 use Rattle.gx_base.specs.PointKind.{IsPlace, HoldsPlaces}
 use Rattle.gx_base.specs.States.{State, row_cmp}
 use Rattle.gx_base.proofs.CallerLemmas.{same_row, same_row-is, row_at-with}
@@ -17,13 +19,13 @@ use Rattle.kd_points.specs.TreeStates.{node_at, place, row_of_node, tree_rows, t
 abbrev pub AllFit : Nodes → Type 0
 AllFit look = (key : ℕ) (n : Node) → look key ≡ Some n → FitsSpot n.spot
 
-named : (b c : Bool) → (b && c) ≡ true → c ≡ true
-named true c e = e
-named false c e = absurd (cc)
+right_true : (b c : Bool) → (b && c) ≡ true → c ≡ true
+right_true true c e = e
+right_true false c e = absurd (cc)
 
 place_by : (id : ℤ) (n : Node) (b : Bool) → is_point_of id n ≡ b → FitsSpot n.spot → IsPlace (0, id) (if b then Some (place n.spot) else None)
 place_by id n true e f =
-    let id_fits = subst (λ y. FitsSpot (record n.spot { id = y })) ((signed_Decides n.spot.id id).0 (named n.live (int_eq n.spot.id id) e)) f in
+    let id_fits = subst (λ y. FitsSpot (record n.spot { id = y })) ((signed_Decides n.spot.id id).0 (right_true n.live (int_eq n.spot.id id) e)) f in
     (refl, id_fits.0, f.1, f.2, f.3)
 place_by id n false e f = tt
 
@@ -41,7 +43,7 @@ put-IsPlace key at false row old e h k = k
 rows-IsPlace : (look : Nodes) → AllFit look → (es : List (ℤ × ℕ)) (key : ℕ × ℤ) → IsPlace key (map.get (tree_rows look es) key)
 rows-IsPlace look h [] key = subst (IsPlace key) (sym (map.get-empty row_cmp key)) tt
 rows-IsPlace look h (e ∷ es) key =
-    let s : State = record { kind = 3; rows = tree_rows look es } in
+    let s : State = record { kind = kind_number Points; rows = tree_rows look es } in
     subst (IsPlace key) (sym (row_at-with s (0, e.0) (row_of_node e.0 (look e.1)) key))
     (put-IsPlace key (0, e.0) (same_row key (0, e.0)) (row_of_node e.0 (look e.1)) (map.get (tree_rows look es) key) (same_row-is key (0, e.0)) (row-IsPlace look h e.0 e.1) (rows-IsPlace look h es key))
 

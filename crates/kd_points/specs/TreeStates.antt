@@ -13,7 +13,7 @@ use Rattle.kd_points.specs.declared.nodes.Node.{Node}
 use Rattle.kd_points.specs.declared.nodes.Seat.{Seat}
 use Rattle.kd_points.specs.declared.nodes.Seat.TheVariants.{Free}
 use Rattle.kd_points.specs.declared.tree.Tree.{Tree}
-use Rattle.kd_points.specs.Trees.{Nodes, spot_cmp, is_point_of, IsTree, IsSeat, way, is_bare, depth_of, seat_depth}
+use Rattle.kd_points.specs.Trees.{Nodes, spot_cmp, is_point_of, IsTree, IsSeat, way, is_bare, node_depth, seat_depth}
 
 -- the node of a key
 abbrev pub node_at : Tree → Nodes
@@ -99,13 +99,13 @@ abbrev pub NoneBare : Tree → Type 0
 NoneBare tree = (j : ℕ) (n : Node) → node_at tree j ≡ Some n → n.bare ≡ false
 
 -- a new node has this key: what belonged at its seat belongs on one of its sides now
-pub record IsBelow (old new : Tree) (seat : Seat) (spot : Spot) (axis : Axis) (key : ℕ) : Type 0 where
+pub record HangsBelow (old new : Tree) (seat : Seat) (spot : Spot) (axis : Axis) (key : ℕ) : Type 0 where
   pub vacant : node_at old key ≡ None
   pub below : (r : Spot) → IsSeat (node_at old) old.root r seat → IsSeat (node_at new) new.root r (Free key (is_lt (spot_cmp axis r spot)))
   pub beside : SeatsStay old new seat
-  pub deep : depth_of (node_at new key) ≡ Some (seat_depth (node_at old) seat)
-  pub other_depths : (j d : ℕ) → depth_of (node_at new j) ≡ Some d → (j ≡ key) ⊎ (depth_of (node_at old j) ≡ Some d)
-  pub depths_stay : (j d : ℕ) → depth_of (node_at old j) ≡ Some d → depth_of (node_at new j) ≡ Some d
+  pub deep : node_depth (node_at new key) ≡ Some (seat_depth (node_at old) seat)
+  pub other_depths : (j d : ℕ) → node_depth (node_at new j) ≡ Some d → (j ≡ key) ⊎ (node_depth (node_at old j) ≡ Some d)
+  pub depths_stay : (j d : ℕ) → node_depth (node_at old j) ≡ Some d → node_depth (node_at new j) ≡ Some d
   pub size : slab_len new.nodes ≡ slab_len old.nodes + 1
   pub none_bare : NoneBare old → NoneBare new
 

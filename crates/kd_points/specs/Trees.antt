@@ -53,9 +53,9 @@ way look r zero from = from
 way look r (suc k) None = None
 way look r (suc k) (Some i) = way look r k (child_of (look i) r)
 
-abbrev pub depth_of : Option Node → Option ℕ
-depth_of None = None
-depth_of (Some n) = Some n.depth
+abbrev pub node_depth : Option Node → Option ℕ
+node_depth None = None
+node_depth (Some n) = Some n.depth
 
 -- nothing is live under the node, as is noted there
 abbrev pub is_bare : Option Node → Bool
@@ -82,9 +82,9 @@ FitsSpot r = FitsSigned w64 r.id × FitsSigned w64 r.x × FitsSigned w64 r.y × 
 -- a tree of so many nodes: each stands, live or not, where the way of its spot leads from the root after as many steps as
 -- its depth says. The numbers lead to the key of the live node of each id, and no node on the way to a live one is bare
 pub record IsTree (look : Nodes) (root : Option ℕ) (size : ℕ) (numbers : ℤ → Option ℕ) : Type 0 where
-  pub rooted : (r : ℕ) → root ≡ Some r → depth_of (look r) ≡ Some 0
+  pub rooted : (r : ℕ) → root ≡ Some r → node_depth (look r) ≡ Some 0
   pub placed : (i : ℕ) (n : Node) → look i ≡ Some n → way look n.spot n.depth root ≡ Some i
-  pub nested : (i c : ℕ) (n : Node) (left : Bool) → look i ≡ Some n → child n left ≡ Some c → depth_of (look c) ≡ Some (suc n.depth)
+  pub nested : (i c : ℕ) (n : Node) (left : Bool) → look i ≡ Some n → child n left ≡ Some c → node_depth (look c) ≡ Some (suc n.depth)
   pub shallow : (i : ℕ) (n : Node) → look i ≡ Some n → n.depth < size
   pub numbered : (i : ℕ) (n : Node) → look i ≡ Some n → is_some (numbers n.spot.id) ≡ true
   pub owned : (i : ℕ) (n : Node) → look i ≡ Some n → n.live ≡ true → numbers n.spot.id ≡ Some i

@@ -4,7 +4,7 @@ ghost use Rattle.gx_base.specs.States.{with_row};
 ghost use Rattle.slab.specs.Slab.{slab_len, Updates};
 ghost use Rattle.kd_points.specs.Trees as trees;
 ghost use Rattle.kd_points.specs.declared.nodes.Node.{Node};
-ghost use Rattle.kd_points.specs.TreeStates.{node_at, key_of, place, tree_state, count_of, dead_nodes, IsSound, IsAlike, IsPlanted, IsBelow, IsClear, has_node, NoPoint, KeepsNodes};
+ghost use Rattle.kd_points.specs.TreeStates.{node_at, key_of, place, tree_state, count_of, dead_nodes, IsSound, IsAlike, IsPlanted, HangsBelow, IsClear, has_node, NoPoint, KeepsNodes};
 
 use crate::nodes::{Axis, Node, Seat, crossed, leaf, link};
 use crate::tree::Tree;
@@ -120,7 +120,7 @@ impl Tree {
         ensures ok { OnOk result (tree_state self.new ≡ with_row (tree_state self.old) (0, spot.id) (Some (place spot))) }
         ensures room { OnOk result (has_node self.new spot ≡ true) }
         ensures dead { OnOk result (dead_nodes self.new ≤ dead_nodes self.old) }
-        ensures below { IfOk result (IsBelow self.old self.new (Seat.Free at left) spot axis) }
+        ensures below { IfOk result (HangsBelow self.old self.new (Seat.Free at left) spot axis) }
         ensures err { OnErr result (tree_state self.new ≡ tree_state self.old) }
         ensures kept { KeepsNodes self.old self.new }
     {
@@ -142,7 +142,7 @@ impl Tree {
         ensures ok { OnOk result (tree_state self.new ≡ with_row (tree_state self.old) (0, spot.id) (Some (place spot))) }
         ensures room { OnOk result (has_node self.new spot ≡ true) }
         ensures dead { OnOk result (dead_nodes self.new ≤ dead_nodes self.old) }
-        ensures below { IfOk result (IsBelow self.old self.new Seat.Empty spot axis) }
+        ensures below { IfOk result (HangsBelow self.old self.new Seat.Empty spot axis) }
         ensures err { OnErr result (tree_state self.new ≡ tree_state self.old) }
         ensures kept { KeepsNodes self.old self.new }
     {
@@ -168,7 +168,7 @@ impl Tree {
         ensures ok { OnOk result (tree_state self.new ≡ with_row (tree_state self.old) (0, spot.id) (Some (place spot))) }
         ensures room { OnOk result (has_node self.new spot ≡ true) }
         ensures dead { OnOk result (dead_nodes self.new ≤ dead_nodes self.old) }
-        ensures below { IfOk result (IsBelow self.old self.new seat spot axis) }
+        ensures below { IfOk result (HangsBelow self.old self.new seat spot axis) }
         ensures err { OnErr result (tree_state self.new ≡ tree_state self.old) }
         ensures kept { KeepsNodes self.old self.new }
     {

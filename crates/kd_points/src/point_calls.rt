@@ -1,7 +1,7 @@
 //! Calls of points as spots, and their replies.
 ghost use Rattle.std.specs.Prelude.{◌≡◌, pos, Some, if◌then◌else◌};
 ghost use Rattle.gx_base.specs.Meanings.{number_reply};
-ghost use Rattle.gx_base.specs.PointKind.{may_add, place_of, at_reply as reply_of_at, nearest_reply as reply_of_nearest};
+ghost use Rattle.gx_base.specs.PointKind.{may_add, point_row_of, at_reply as reply_of_at, nearest_reply as reply_of_nearest};
 ghost use Rattle.gx_base.specs.RowActions.{same_content};
 ghost use Rattle.gx_base.specs.Spots as near;
 ghost use Rattle.kd_points.specs.PointsState.{add_call as call_of_add};
@@ -44,7 +44,7 @@ pub fn is_addable(call: Call) -> bool
 
 /// Whether a point stands where the arguments say.
 pub fn is_at(point: Spot, call: Call) -> bool
-    ensures { result ≡ same_content (Some (place point)) (place_of call) }
+    ensures { result ≡ same_content (Some (place point)) (point_row_of call) }
 {
     point.x == call.b && (point.y == call.c && point.z == call.d)
 }

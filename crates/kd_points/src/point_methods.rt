@@ -3,8 +3,10 @@ ghost use Rattle.std.specs.Prelude.{◌≡◌};
 ghost use Rattle.gx_base.specs.PointKind.{point_deed};
 ghost use Rattle.kd_points.specs.PointMethods.{deed_from};
 
+use gx_base::POINT_METHODS;
+
 /// Puts a point in, and replies 1 where it was added.
-pub const ADD: u32 = 32;
+pub const ADD: u32 = POINT_METHODS;
 
 /// Takes a point out, and replies 1 where it was there.
 pub const REMOVE: u32 = ADD + 1;

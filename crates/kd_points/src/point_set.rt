@@ -27,7 +27,7 @@ impl KdPoints {
     ghost use Rattle.gx_base.specs.declared.calls.Made.{Made};
     ghost use Rattle.gx_base.specs.declared.kinds.Kind.TheVariants.{Points};
     ghost use Rattle.gx_base.specs.Kinds.{kind_number};
-    ghost use Rattle.gx_base.specs.PointKind.{spot_at, Add, Remove, Nearest, point_action, may_add, place_of};
+    ghost use Rattle.gx_base.specs.PointKind.{spot_at, Add, Remove, Nearest, point_action, may_add, point_row_of};
     ghost use Rattle.gx_base.specs.RowActions.{turns, action_next, action_reply, action_inverse};
     ghost use Rattle.gx_base.specs.Spots as near;
     ghost use Rattle.gx_base.specs.States.{with_row};
@@ -109,7 +109,7 @@ impl KdPoints {
 
     /// Whether a remove would change anything.
     fn holds(&self, call: Call) -> bool
-        ensures { result ≡ turns true (place_of call) (points_state self.now) call.a }
+        ensures { result ≡ turns true (point_row_of call) (points_state self.now) call.a }
     {
         match self.tree.at(call.a) {
             None => false,
@@ -161,7 +161,7 @@ impl KdPoints {
     /// Takes the point of a call out, or puts it where the tree has a node for it.
     fn set_point(&mut self, call: Call, there: bool)
         requires { has_node self.old.tree (near.spot_of_call call) ≡ true }
-        ensures state { points_state self.new ≡ with_row (points_state self.old) (0, call.a) (if there then place_of call else None) }
+        ensures state { points_state self.new ≡ with_row (points_state self.old) (0, call.a) (if there then point_row_of call else None) }
         ensures kept { (made : Made) → IsTrue (has_points_room self.old made) → IsTrue (has_points_room self.new made) }
         ensures looked { distances_taken self.new ≡ distances_taken self.old }
     {

@@ -60,8 +60,8 @@ needs_of modes made = map (need_of made) (wants_of modes made.call.method)
 pub record Clash (modes : LockModes) (first second : Made) : Type 0 where
   pub held : Need
   pub asked : Need
-  pub is_held : Contains (needs_of modes first) held
-  pub is_asked : Contains (needs_of modes second) asked
+  pub held_by_first : Contains (needs_of modes first) held
+  pub asked_by_second : Contains (needs_of modes second) asked
   pub equal_values : held.value ≡ asked.value
   pub refused : incompatible modes held.mode asked.mode ≡ true
 

@@ -13,7 +13,7 @@ use gx_base::{Cond, Kind, NoMemory, Side, Table, Term, method_at};
 use std::alloc::Global;
 
 /// The place of the first that isn't below a number.
-fn place_of(numbers: &[u32], number: u32) -> Option<usize>
+fn number_index(numbers: &[u32], number: u32) -> Option<usize>
     ensures { result ≡ position_from (nat_le number) 0 numbers.now }
 {
     numbers.iter().position(|other| number <= *other)
@@ -23,7 +23,7 @@ fn place_of(numbers: &[u32], number: u32) -> Option<usize>
 fn add_number(numbers: &mut Vec<u32>, number: u32) -> Result<(), NoMemory>
     ensures { OnOk result (numbers.new.items ≡ with_its_number number numbers.old.items) }
 {
-    match place_of(numbers, number) {
+    match number_index(numbers, number) {
         None => numbers.push(number)?,
         Some(place) => {
             if numbers[place] != number {

@@ -114,7 +114,7 @@ fn refusals(alloc: Global, modes: &Modes, mode: u32, numbers: &[u32]) -> Result<
 }
 
 /// A mode that stays, with the members of all that are like it.
-fn merged(alloc: Global, modes: &Modes, mode: u32, numbers: &[u32]) -> Result<Mode, NoMemory>
+fn joined_mode(alloc: Global, modes: &Modes, mode: u32, numbers: &[u32]) -> Result<Mode, NoMemory>
     requires one { mode < length modes.now }
     requires listed { numbers.now ≡ staying modes.now }
     ensures { IfOk result (λ merged. mode_of merged ≡ merged_mode modes.now mode) }
@@ -131,7 +131,7 @@ fn all_merged(alloc: Global, modes: &Modes, numbers: &[u32]) -> Result<Vec<Mode>
 {
     let mut all = Vec::with_capacity(alloc, numbers.len())?;
     for mode in numbers {
-        all.push(merged(alloc, modes, *mode, numbers)?)?;
+        all.push(joined_mode(alloc, modes, *mode, numbers)?)?;
     }
     Ok(all)
 }

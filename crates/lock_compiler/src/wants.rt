@@ -27,7 +27,7 @@ pub(crate) fn want_at(lists: &[MethodWants], method: u32, i: usize) -> Option<(u
     None
 }
 
-fn place_of(lists: &[MethodWants], method: u32) -> Option<usize>
+fn method_index(lists: &[MethodWants], method: u32) -> Option<usize>
     ensures { result ≡ position_from (is_for method) 0 lists.now }
 {
     lists.iter().position(|list| list.method == method)
@@ -43,7 +43,7 @@ fn add_want(
         ≡ wanted_in lists.old.items m ++ (if method == m then want ∷ [] else [])) }
 {
     let alloc = *lists.allocator();
-    match place_of(lists, method) {
+    match method_index(lists, method) {
         Some(place) => {
             let list = &mut lists[place];
             list.wants.push(want)?;

@@ -8,7 +8,7 @@ use Rattle.speculation.specs.Limits.{Limit}
 use Rattle.speculation.specs.Machines.{Machine}
 use Rattle.speculation.specs.ScheduledRuns.{AllBelow}
 use Rattle.schedules.specs.Draws.{scheduled_turns}
-use Rattle.rooms.specs.RoomsViews.{is_held}
+use Rattle.rooms.specs.RoomsViews.{is_room_held}
 use Rattle.rooms.specs.Values.{tells}
 use Rattle.rooms.specs.Visits.{Visits, AreGatesAndBook, view_of}
 use Rattle.rooms.specs.declared.values.Value.{Value}
@@ -25,8 +25,8 @@ module _ {T S : Type 0} (made : Visits (Value T S)) (values : List (Value T S)) 
   pub told_is : (view_of tells made).told ≡ slice_get values
   told_is = ap (λ (x : Visits (Value T S)). (view_of tells x).told) is
 
-  pub rooms_unheld : (room : ℕ) → is_held (view_of tells made) room ≡ false
-  rooms_unheld room = ap (λ (x : Visits (Value T S)). is_held (view_of tells x) room) is
+  pub rooms_unheld : (room : ℕ) → is_room_held (view_of tells made) room ≡ false
+  rooms_unheld room = ap (λ (x : Visits (Value T S)). is_room_held (view_of tells x) room) is
 
   pub new_in_rooms : (op : Operator) → AreNewFor op (slice_get values) → AreNewFor op (view_of tells made).told
   new_in_rooms op new = subst (λ (told : ℕ → Option (Value T S)). AreNewFor op told) (sym told_is) new

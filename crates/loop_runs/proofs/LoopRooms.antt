@@ -27,39 +27,39 @@ use Rattle.sessions.specs.SessionViews.{begun_view}
 use Rattle.traces.specs.Traces.{trace_text}
 use Rattle.run_words.specs.declared.options.RunOptions.{RunOptions}
 use Rattle.loop_runs.specs.GateTables.{GateTables}
-use Rattle.loop_runs.specs.LoopRuns.{Loop, IsReportOf, loop_machine, new_gate, run_of}
+use Rattle.loop_runs.specs.LoopRuns.{Loop, IsReportOf, loop_machine, new_gate, loop_run}
 use Rattle.loop_runs.specs.LoopRooms.{AreValuesOf, gates_over, IsLoopPlayed, states_in, last_book}
 
 module _ (T S : Type 0) (tables : GateTables) (book : BookView) where
   -- ---- the values at the start
 
-  abbrev pub values_of : List State → List (Value T S)
-  values_of states = gates_over tables states ++ Book book ∷ []
+  abbrev pub loop_values : List State → List (Value T S)
+  loop_values states = gates_over tables states ++ Book book ∷ []
 
-  pub gate_at : (states : List State) (room : ℕ) → room < length states → slice_get (values_of states) room ≡ Some (Object (new_gate tables (in_rooms states room)))
+  pub gate_at : (states : List State) (room : ℕ) → room < length states → slice_get (loop_values states) room ≡ Some (Object (new_gate tables (in_rooms states room)))
   gate_at [] room l = absurd (omega arith)
   gate_at (s ∷ states) zero l = refl
   gate_at (s ∷ states) (suc room) l = gate_at states room (omega arith)
 
-  pub book_at : (states : List State) → slice_get (values_of states) (length states) ≡ Some (Book book)
+  pub book_at : (states : List State) → slice_get (loop_values states) (length states) ≡ Some (Book book)
   book_at [] = refl
   book_at (s ∷ states) = book_at states
 
-  pub none_past : (states : List State) (room : ℕ) → length states < room → slice_get (values_of states) room ≡ None
+  pub none_past : (states : List State) (room : ℕ) → length states < room → slice_get (loop_values states) room ≡ None
   none_past [] zero l = absurd (omega arith)
   none_past [] (suc room) l = refl
   none_past (s ∷ states) zero l = absurd (omega arith)
   none_past (s ∷ states) (suc room) l = none_past states room (omega arith)
 
-  gate_past : (states : List State) (room : ℕ) → length states ≤ room → gate_in (slice_get (values_of states) room) ≡ no_gate
+  gate_past : (states : List State) (room : ℕ) → length states ≤ room → gate_in (slice_get (loop_values states) room) ≡ no_gate
   gate_past states room l = by_place (cases_lt (length states) room)
     where
-      by_place : (length states < room) ⊎ (room ≤ length states) → gate_in (slice_get (values_of states) room) ≡ no_gate
+      by_place : (length states < room) ⊎ (room ≤ length states) → gate_in (slice_get (loop_values states) room) ≡ no_gate
       by_place (inl less) = ap gate_in (none_past states room less)
-      by_place (inr more) = let same : length states ≡ room = omega arith in ap gate_in (subst (λ (k : ℕ). slice_get (values_of states) k ≡ Some (Book book)) same (book_at states))
+      by_place (inr more) = let same : length states ≡ room = omega arith in ap gate_in (subst (λ (k : ℕ). slice_get (loop_values states) k ≡ Some (Book book)) same (book_at states))
 
   gate_by : (rooms : ℕ) (states : List State) (first : ℕ → State) (room : ℕ) (b : Bool) → nat_lt room rooms ≡ b → length states ≡ rooms → in_rooms states ≡ first
-      → gate_in (slice_get (values_of states) room) ≡ (if b then new_gate tables (first room) else no_gate)
+      → gate_in (slice_get (loop_values states) room) ≡ (if b then new_gate tables (first room) else no_gate)
   gate_by rooms states first room true e n are =
       let less : room < rooms = ltb-true room rooms e in
       ap gate_in (gate_at states room (omega arith)) ∙ ap (λ (f : ℕ → State). new_gate tables (f room)) are
@@ -67,9 +67,9 @@ module _ (T S : Type 0) (tables : GateTables) (book : BookView) where
 
   -- they are the machine of the loop
   pub begun_is : (loop : Loop) (states : List State) → book ≡ new_book loop.operator.ordered loop.ready → length states ≡ loop.operator.rooms → in_rooms states ≡ loop.states
-      → begun_machine loop.operator.rooms (λ room. slice_get (values_of states) room) ≡ loop_machine loop tables
+      → begun_machine loop.operator.rooms (λ room. slice_get (loop_values states) room) ≡ loop_machine loop tables
   begun_is loop states b n are =
-      let there : book_in (slice_get (values_of states) loop.operator.rooms) ≡ book = ap book_in (subst (λ (k : ℕ). slice_get (values_of states) k ≡ Some (Book book)) n (book_at states)) in
+      let there : book_in (slice_get (loop_values states) loop.operator.rooms) ≡ book = ap book_in (subst (λ (k : ℕ). slice_get (loop_values states) k ≡ Some (Book book)) n (book_at states)) in
       λ i. record {
         gates = λ room. gate_by loop.operator.rooms states loop.states room (nat_lt room loop.operator.rooms) refl n are i;
         book = (there ∙ b) i;
@@ -78,12 +78,12 @@ module _ (T S : Type 0) (tables : GateTables) (book : BookView) where
 
   -- and new for it
   pub are_new : (op : Operator) (states : List State) → op.rooms + 1 < 2 ^ 32 → book.ordered ≡ op.ordered → book.holds ≡ [] → book.commits ≡ [] → length states ≡ op.rooms
-      → AreNewFor op (λ room. slice_get (values_of states) room)
+      → AreNewFor op (λ room. slice_get (loop_values states) room)
   are_new op states few b h c n = record {
     gates = λ room l. record { gate = new_gate tables (in_rooms states room); is_there = gate_at states room (omega arith); no_done = refl; no_live = refl };
     book = record {
       book = book;
-      is_there = let same : length states ≡ op.rooms = omega arith in subst (λ (k : ℕ). slice_get (values_of states) k ≡ Some (Book book)) same (book_at states);
+      is_there = let same : length states ≡ op.rooms = omega arith in subst (λ (k : ℕ). slice_get (loop_values states) k ≡ Some (Book book)) same (book_at states);
       ordered = b;
       no_holds = h;
       no_commits = c;
@@ -94,7 +94,7 @@ module _ (T S : Type 0) (tables : GateTables) (book : BookView) where
 
   -- ---- as rooms take them
 
-  pub gates_and_book : (states : List State) → AreGatesAndBook (map tells (values_of states))
+  pub gates_and_book : (states : List State) → AreGatesAndBook (map tells (loop_values states))
   gates_and_book [] = refl
   gates_and_book (s ∷ []) = (refl, omega arith, refl)
   gates_and_book (s ∷ t ∷ states) = (refl, omega arith, gates_and_book (t ∷ states))
@@ -215,7 +215,7 @@ pub is_report : {T S : Type 0} (options : RunOptions) (tables : GateTables) (loo
     → lines ≡ loop.report (items_of order) (in_rooms states) → text ≡ lines ++ trace_text (record { turns = options.trace; told = options.told }) trace → IsReportOf options tables loop text
 is_report options tables loop trace values order states lines text comes known s o l t =
     let p = known.is_played in
-    let run : Run = run_of options tables loop p.turns in
+    let run : Run = loop_run options tables loop p.turns in
     let m : Machine = run.machine in
     let commits : List WholeCommit = m.book.commits in
     let parts = taken values loop.operator.rooms m.gates m.book (new_book false []) p.gates p.book p.no_more in

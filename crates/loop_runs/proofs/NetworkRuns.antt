@@ -10,7 +10,7 @@ use Rattle.preflow_push.specs.Networks.{Net}
 pub same_operator : (net : Net) (plan : Item → Plan) → plan ≡ discharge_plan net → ◌≡◌ {A = Operator} (record { ordered = false; rooms = rooms; plan = plan }) (discharge_operator net)
 same_operator net plan e = ap (λ (p : Item → Plan). record { ordered = false; rooms = rooms; plan = p }) e
 
-few_by : (n : ℕ) → n ≡ 16 → n + 1 < 2 ^ 32
+few_by : (n : ℕ) → n ≡ rooms → n + 1 < 2 ^ 32
 few_by n e = omega arith
 
 pub few_rooms : rooms + 1 < 2 ^ 32

@@ -40,24 +40,24 @@ loop_machine loop tables = record {
 }
 
 -- the workers take the turns that the seed draws, and at the end worker 0 takes so many alone
-abbrev pub run_of : RunOptions → GateTables → Loop → ℕ → Run
-run_of options tables loop turns = played loop.operator (loop_machine loop tables) options.workers (scheduled_turns options.seed options.workers options.turns) turns
+abbrev pub loop_run : RunOptions → GateTables → Loop → ℕ → Run
+loop_run options tables loop turns = played loop.operator (loop_machine loop tables) options.workers (scheduled_turns options.seed options.workers options.turns) turns
 
 -- the limit that the first of its commits passes which passes one
-abbrev pub limit_in : RunOptions → GateTables → Loop → ℕ → Option Limit
-limit_in options tables loop turns = limit_of_played loop.operator (loop_machine loop tables) options.workers (scheduled_turns options.seed options.workers options.turns) turns
+abbrev pub loop_limit : RunOptions → GateTables → Loop → ℕ → Option Limit
+loop_limit options tables loop turns = limit_of_played loop.operator (loop_machine loop tables) options.workers (scheduled_turns options.seed options.workers options.turns) turns
 
 -- this is the loop's run by its schedule, to its end, and no commit of it passes a limit
 pub record IsLoopRun (options : RunOptions) (tables : GateTables) (loop : Loop) (run : Run) : Type 0 where
   pub turns : ℕ
-  pub is_run : run ≡ run_of options tables loop turns
+  pub is_run : run ≡ loop_run options tables loop turns
   pub ends : run.machine.book.ready ≡ []
-  pub unlimited : limit_in options tables loop turns ≡ None
+  pub unlimited : loop_limit options tables loop turns ≡ None
 
 -- the first commit of the loop's run that passes a limit passes this one
 pub record IsRunPast (options : RunOptions) (tables : GateTables) (loop : Loop) (limit : Limit) : Type 0 where
   pub turns : ℕ
-  pub passes : limit_in options tables loop turns ≡ Some limit
+  pub passes : loop_limit options tables loop turns ≡ Some limit
 
 -- The commits are a serial run of the loop from its start: each item was ready at its turn, and none is ready at the end. Their
 -- order is that of the loop's run by its schedule. The report is that of this order and of the states at the end, and then the

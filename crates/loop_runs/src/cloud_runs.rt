@@ -30,7 +30,7 @@ pub struct CloudTables {
 }
 
 /// A gate over what a room has.
-fn gate_of(
+fn cloud_gate(
     alloc: Global,
     cloud: Cloud,
     tables: &CloudTables,
@@ -67,14 +67,14 @@ fn gates_of(
 {
     let mut values = Vec::new(alloc);
     for cloud in clouds {
-        let gate = gate_of(alloc, cloud, tables)?;
+        let gate = cloud_gate(alloc, cloud, tables)?;
         values.push(Value::Object(gate))?;
     }
     Ok(values)
 }
 
 /// The rooms of some points at the start: the gates, and then the book.
-fn values_of(
+fn cloud_values(
     alloc: Global,
     tables: &CloudTables,
     spots: &[Spot],
@@ -103,7 +103,7 @@ pub fn run_points(
     ensures played { IfOk result (λ played. IsLoopPlayed options (tables_in tables.now) (cluster_loop spots.now) (turns_of played.trace.items) (slice_get played.values.items)) }
     ensures past { (limit : Limit) → result ≡ Err (stop_of limit) → IsRunPast options (tables_in tables.now) (cluster_loop spots.now) limit }
 {
-    match values_of(alloc, tables, spots) {
+    match cloud_values(alloc, tables, spots) {
         Ok(values) => {
             let chain = Chain::new(spots.len() as u64);
             run_values(alloc, options, &chain, values)

@@ -41,7 +41,7 @@ fn gates_of(
 }
 
 /// The rooms of a network at the start: the gates, and then the book.
-fn values_of(
+fn network_values(
     alloc: Global,
     table: &Table,
     net: &Network,
@@ -67,7 +67,7 @@ pub fn run_network(
     ensures played { IfOk result (λ played. IsLoopPlayed options (shard_tables table.now) (network_loop (view net.now)) (turns_of played.trace.items) (slice_get played.values.items)) }
     ensures past { (limit : Limit) → result ≡ Err (stop_of limit) → IsRunPast options (shard_tables table.now) (network_loop (view net.now)) limit }
 {
-    match values_of(alloc, table, net) {
+    match network_values(alloc, table, net) {
         Ok(values) => match Discharge::new(alloc, net) {
             Ok(operator) => run_values(alloc, options, &operator, values),
             Err(NoMemory) => Err(Stop::NoMemory),

@@ -8,7 +8,7 @@ use Rattle.preflow_push.specs.declared.network.Arc as arcs
 use Rattle.preflow_push.specs.declared.network.Network.{Network}
 use Rattle.preflow_push.specs.declared.flow_lines.Said.{Said}
 use Rattle.preflow_push.specs.declared.flow_lines.Said.TheVariants.{Nothing, Problem, Source, Sink, Arc, Wrong}
-use Rattle.preflow_push.specs.declared.reading.Seen.{Seen}
+use Rattle.preflow_push.specs.declared.reading.LinesRead.{LinesRead}
 use Rattle.preflow_push.specs.FlowLines.{said_by}
 use Rattle.preflow_push.specs.FlowFiles.{most_capacity, new_arc}
 use Rattle.preflow_push.specs.Networks.{Net, view}
@@ -20,7 +20,7 @@ pub record FileState : Type 0 where
   pub sink : Option ℕ
   pub arcs : List arcs.Arc
 
-abbrev pub state : Seen → FileState
+abbrev pub state : LinesRead → FileState
 state seen = record { problem = seen.problem; source = seen.source; sink = seen.sink; arcs = seen.arcs.items }
 
 abbrev pub at_first : FileState
@@ -45,13 +45,13 @@ may_go None before from to cap = false
 may_go (Some p) before from to cap = nat_lt before p.1 && is_node_number p.0 from && is_node_number p.0 to && not (from == to) && nat_le cap most_capacity
 
 -- a line more, or nothing where it can't stand there
-abbrev pub step : Said → FileState → Option FileState
-step Nothing s = Some s
-step (Problem nodes arcs) s = if is_none s.problem && nat_le 2 nodes then Some (record s { problem = Some (nodes, arcs) }) else None
-step (Source id) s = if may_be_terminal s.problem s.source s.sink id then Some (record s { source = Some id }) else None
-step (Sink id) s = if may_be_terminal s.problem s.sink s.source id then Some (record s { sink = Some id }) else None
-step (Arc from to cap) s = if may_go s.problem (length s.arcs) from to cap then Some (record s { arcs = s.arcs ++ new_arc from to cap ∷ [] }) else None
-step Wrong s = None
+abbrev pub with_line : Said → FileState → Option FileState
+with_line Nothing s = Some s
+with_line (Problem nodes arcs) s = if is_none s.problem && nat_le 2 nodes then Some (record s { problem = Some (nodes, arcs) }) else None
+with_line (Source id) s = if may_be_terminal s.problem s.source s.sink id then Some (record s { source = Some id }) else None
+with_line (Sink id) s = if may_be_terminal s.problem s.sink s.source id then Some (record s { sink = Some id }) else None
+with_line (Arc from to cap) s = if may_go s.problem (length s.arcs) from to cap then Some (record s { arcs = s.arcs ++ new_arc from to cap ∷ [] }) else None
+with_line Wrong s = None
 
 -- the network, where nothing is missing
 abbrev pub whole_of : Option (ℕ × ℕ) → Option ℕ → Option ℕ → List arcs.Arc → Option Net
@@ -74,7 +74,7 @@ then_read (Some s) k go_on = go_on s
 
 abbrev pub read_from : List Said → ℕ → FileState → Result Net ℕ
 read_from [] k s = read_to_end (whole s) k
-read_from (said ∷ saids) k s = then_read (step said s) k (read_from saids (k + 1))
+read_from (said ∷ saids) k s = then_read (with_line said s) k (read_from saids (k + 1))
 
 abbrev pub saids_of : List ℕ → List Said
 saids_of bytes = map said_by (lines_of bytes)

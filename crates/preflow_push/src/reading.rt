@@ -5,7 +5,7 @@ ghost use Rattle.gx_base.specs.declared.inputs.InputFault as fault;
 ghost use Rattle.gx_base.specs.declared.inputs.InputFault.TheVariants as faults;
 ghost use Rattle.preflow_push.specs.FlowLimits.{CallsFor, answer_of, sized};
 ghost use Rattle.preflow_push.specs.FlowLines.{IsSmall};
-ghost use Rattle.preflow_push.specs.FlowReading.{state, at_first, step, whole, AreSmall, flow_of, AnswersReading, read_to_end, is_node_number, is_other_than, may_be_terminal, may_go};
+ghost use Rattle.preflow_push.specs.FlowReading.{state, at_first, with_line, whole, AreSmall, flow_of, AnswersReading, read_to_end, is_node_number, is_other_than, may_be_terminal, may_go};
 ghost use Rattle.preflow_push.specs.Networks.{Net, view};
 
 use super::flow_lines::{Said, said_by};
@@ -48,7 +48,7 @@ fn within_limits(net: Network) -> Result<Network, InputFault>
 fn read_lines(alloc: Global, bytes: &[u8]) -> Result<Network, InputFault>
     ensures { AnswersReading result (flow_of bytes.now) }
 {
-    let mut seen = Seen::new(alloc);
+    let mut seen = LinesRead::new(alloc);
     let mut rest = bytes;
     let mut next = 1;
     while !rest.is_empty() {
@@ -66,7 +66,7 @@ fn read_lines(alloc: Global, bytes: &[u8]) -> Result<Network, InputFault>
 
 /// What the lines said so far.
 #[derive(Drop)]
-pub struct Seen {
+pub struct LinesRead {
     /// How many nodes and arcs there are to be.
     problem: Option<(u64, u64)>,
     source: Option<u64>,
@@ -74,12 +74,12 @@ pub struct Seen {
     arcs: Vec<Arc>,
 }
 
-impl Seen {
-    fn new(alloc: Global) -> Seen
+impl LinesRead {
+    fn new(alloc: Global) -> LinesRead
         ensures first { state result ≡ at_first }
         ensures small { AreSmall (state result) }
     {
-        Seen {
+        LinesRead {
             problem: None,
             source: None,
             sink: None,
@@ -91,8 +91,8 @@ impl Seen {
     fn take(&mut self, said: Said) -> Result<bool, NoMemory>
         requires said_small { IsSmall said }
         requires small { AreSmall (state self.old) }
-        ensures good { IfOk result (λ good. IsTrue good → step said (state self.old) ≡ Some (state self.new)) }
-        ensures faulty { IfOk result (λ good. IsFalse good → step said (state self.old) ≡ None) }
+        ensures good { IfOk result (λ good. IsTrue good → with_line said (state self.old) ≡ Some (state self.new)) }
+        ensures faulty { IfOk result (λ good. IsFalse good → with_line said (state self.old) ≡ None) }
         ensures small { AreSmall (state self.new) }
     {
         match said {

@@ -42,11 +42,11 @@ pub record RoomsView (V : Type 0) : Type 0 where
 
 -- ---- what the caller holds
 
-abbrev pub is_held : {V : Type 0} → RoomsView V → ℕ → Bool
-is_held view room = is_some (view.held room)
+abbrev pub is_room_held : {V : Type 0} → RoomsView V → ℕ → Bool
+is_room_held view room = is_some (view.held room)
 
 abbrev pub holds_book : {V : Type 0} → RoomsView V → Bool
-holds_book view = is_held view view.book
+holds_book view = is_room_held view view.book
 
 -- the mark of a held gate as it was entered
 abbrev pub mark_in : Option RoomView → ℕ

@@ -20,6 +20,6 @@ abbrev pub IsHomed : {T S : Type 0} → Value T S → Type 0
 IsHomed (Object gate) = IsHomedGate gate
 IsHomed (Book book) = IsLawfulBook book
 
-pub alone : {T S : Type 0} (value : Value T S) → IsHomed value → is_book (tells value).origin ≡ false → (worker : ℕ) → ReplaysAlone (tells value) worker
-alone (Object gate) homed no_book worker = homed.alone worker
-alone (Book book) homed no_book worker = books.alone book worker no_book
+pub value_alone : {T S : Type 0} (value : Value T S) → IsHomed value → is_book (tells value).origin ≡ false → (worker : ℕ) → ReplaysAlone (tells value) worker
+value_alone (Object gate) homed no_book worker = homed.alone worker
+value_alone (Book book) homed no_book worker = books.book_alone book worker no_book

@@ -4,7 +4,7 @@ use Rattle.std.specs.Option.{option_map}
 use Rattle.std.specs.Coded.{Coded, code_by, coded×, coded_ℕ, coded_bool, coded_list}
 use Rattle.gx_base.specs.declared.acts.Entry.{Entry}
 use Rattle.gx_base.specs.RoomViews.{RoomView, is_book}
-use Rattle.rooms.specs.RoomsViews.{Move, RoomsView, is_held, holds_book, entries_for, nowhere, entered, left}
+use Rattle.rooms.specs.RoomsViews.{Move, RoomsView, is_room_held, holds_book, entries_for, nowhere, entered, left}
 use Rattle.rooms.specs.HandedOut.{is_ordered, MayStand}
 
 -- the values at first, and the moves, the newest before the others
@@ -70,20 +70,20 @@ abbrev pub count_in : {V : Type 0} → (V → RoomView) → Option V → ℕ
 count_in tells None = 0
 count_in tells (Some value) = length (tells value).commits
 
-abbrev pub count_of : {V : Type 0} → (V → RoomView) → RoomsView V → ℕ
-count_of tells view = count_in tells (view.told view.book)
+abbrev pub commit_count : {V : Type 0} → (V → RoomView) → RoomsView V → ℕ
+commit_count tells view = count_in tells (view.told view.book)
 
 -- Each value that isn't held is the one in the vector, and each held one was told by its room as it was entered; each stands
 -- where it may, and no gate's mark is more than the number of commits, or one more than that where the room was released.
 pub record AreKeptValues {V : Type 0} (tells : V → RoomView) (view : RoomsView V) (values : List V) : Type 0 where
   pub size : length values ≡ view.book + 1
   pub limit : view.book < 2 ^ 32
-  pub home : (room : ℕ) → is_held view room ≡ false → view.told room ≡ slice_get values room
-  pub held : (room : ℕ) → is_held view room ≡ true → view.held room ≡ option_map tells (view.told room)
-  pub in_range : (room : ℕ) → is_held view room ≡ true → room ≤ view.book
+  pub home : (room : ℕ) → is_room_held view room ≡ false → view.told room ≡ slice_get values room
+  pub held : (room : ℕ) → is_room_held view room ≡ true → view.held room ≡ option_map tells (view.told room)
+  pub in_range : (room : ℕ) → is_room_held view room ≡ true → room ≤ view.book
   pub suits : (room : ℕ) (value : V) → view.told room ≡ Some value → MayStand view.book view.ordered room (tells value)
   pub live : (room : ℕ) (value : V) → view.told room ≡ Some value → entries_for view.acts_for (tells value).live ≡ view.live room
-  pub marks : (room : ℕ) (value : V) → view.told room ≡ Some value → is_book (tells value).origin ≡ false → (tells value).mark ≤ (if view.released room then count_of tells view + 1 else count_of tells view)
+  pub marks : (room : ℕ) (value : V) → view.told room ≡ Some value → is_book (tells value).origin ≡ false → (tells value).mark ≤ (if view.released room then commit_count tells view + 1 else commit_count tells view)
   pub released : (room : ℕ) → view.released room ≡ true → holds_book view ≡ true
 
 -- each room up to the book's has a value that suits it, and no other room has one

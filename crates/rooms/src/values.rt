@@ -10,11 +10,11 @@ pub enum Value<T: SeqType, S: Screen<T>> {
 }
 
 impl<T: SeqType, S: Screen<T>> Homed for Value<T, S> {
-    ghost use Rattle.rooms.specs.Values.{tells, IsHomed, alone};
+    ghost use Rattle.rooms.specs.Values.{tells, IsHomed, value_alone};
 
     ghost told = { λ value. tells value };
 
     ghost lawful = { λ value. IsHomed value };
 
-    ghost alone = { λ value homed no_book worker. alone value homed no_book worker };
+    ghost alone = { λ value homed no_book worker. value_alone value homed no_book worker };
 }

@@ -1,5 +1,5 @@
 ghost use Rattle.std.specs.Prelude.{◌≡◌, ◌<◌, ◌^◌, ℕ, true, false, [], length, map, slice_get, slice_set, Some};
-ghost use Rattle.rooms.specs.RoomsViews.{is_held, enters, leaves};
+ghost use Rattle.rooms.specs.RoomsViews.{is_room_held, enters, leaves};
 ghost use Rattle.rooms.specs.Visits.{AreGatesAndBook, AreTold, view_of};
 
 use crate::history::History;
@@ -53,7 +53,7 @@ impl<V: Vacant> VecRooms<V> {
 
     /// The values as they are, the book last.
     pub fn values(&self) -> &[V]
-        requires { (room : ℕ) → is_held (view_of V.told self.now) room ≡ false }
+        requires { (room : ℕ) → is_room_held (view_of V.told self.now) room ≡ false }
         ensures { (room : ℕ) → slice_get result.now room ≡ (view_of V.told self.now).told room }
     {
         &self.values
@@ -68,7 +68,7 @@ impl<V: Vacant> VecRooms<V> {
 
     /// The values as they are, the book last.
     pub fn into_values(self) -> Vec<V>
-        requires { (room : ℕ) → is_held (view_of V.told self) room ≡ false }
+        requires { (room : ℕ) → is_room_held (view_of V.told self) room ≡ false }
         ensures { (room : ℕ) → slice_get result.items room ≡ (view_of V.told self).told room }
     {
         self.values
@@ -77,7 +77,7 @@ impl<V: Vacant> VecRooms<V> {
     #[inline(always)]
     fn hand_out(&mut self, room: Room) -> V
         requires in_range { room ≤ (view_of V.told self.old).book }
-        requires free { is_held (view_of V.told self.old) room ≡ false }
+        requires free { is_room_held (view_of V.told self.old) room ≡ false }
         ensures value { IsHandedOut V.told (view_of V.told self.old) room result }
         ensures moved { self.new ≡ record self.old { moves = enters room result ∷ self.old.moves } }
     {
@@ -89,7 +89,7 @@ impl<V: Vacant> VecRooms<V> {
 
     #[inline(always)]
     fn take_back(&mut self, room: Room, value: V)
-        requires held { is_held (view_of V.told self.old) room ≡ true }
+        requires held { is_room_held (view_of V.told self.old) room ≡ true }
         requires value { MayBeLeft (view_of V.told self.old) room (V.told value) }
         ensures { self.new ≡ record self.old { moves = leaves room value ∷ self.old.moves } }
     {

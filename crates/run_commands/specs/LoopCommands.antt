@@ -10,7 +10,7 @@ use Rattle.run_commands.specs.declared.run_faults.TableFault.{TableFault}
 use Rattle.run_commands.specs.Inputs.{main_of}
 use Rattle.run_commands.specs.CommandMeaning.{CommandMeaning}
 use Rattle.loop_runs.specs.GateTables.{GateTables}
-use Rattle.loop_runs.specs.LoopRuns.{Loop, IsReportOf, IsRunPast, limit_in}
+use Rattle.loop_runs.specs.LoopRuns.{Loop, IsReportOf, IsRunPast, loop_limit}
 
 pub record LoopCommand : Type 1 where
   -- what a file holds, and what the bytes of one call for: what it holds, a line of it that is told as faulty, or a limit that it
@@ -54,7 +54,7 @@ module _ (command : LoopCommand) where
     pub are_accepted : AreAccepted conditions
     pub input : command.Input
     pub is_read : command.calls_for bytes (Ok input)
-    pub is_within : (tables : GateTables) (turns : ℕ) → command.are_tables options.table conditions tables → limit_in options tables (command.loop input) turns ≡ None
+    pub is_within : (tables : GateTables) (turns : ℕ) → command.are_tables options.table conditions tables → loop_limit options tables (command.loop input) turns ≡ None
 
   abbrev pub loop_meaning : RunOptions → CommandMeaning
   loop_meaning options = record {

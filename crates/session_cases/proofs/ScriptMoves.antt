@@ -10,8 +10,8 @@ use Rattle.gx_base.specs.declared.calls.Reply.{Reply}
 use Rattle.gx_base.specs.Plans.{Plan, Follows, IsInRoom, FallsUnlessDone}
 use Rattle.gx_base.specs.Plans as plans
 use Rattle.commit_book.specs.Moves.{Moves}
-use Rattle.session_cases.specs.declared.scripts.Place.{Place}
-use Rattle.session_cases.specs.Scripts.{script_plan, act_within, act_of, rest_at, acts_left}
+use Rattle.session_cases.specs.declared.scripts.ScriptPlace.{ScriptPlace}
+use Rattle.session_cases.specs.Scripts.{script_plan, act_within, act_of, script_rest, script_acts_left}
 
 -- the act at a place begins the acts from there on
 pub act_from : (rooms : ℕ) (xs : List Act) (at : ℕ) (x : Act) → slice_get xs at ≡ Some x → act_within rooms x ≡ act_of rooms (drop at xs)
@@ -36,13 +36,13 @@ act_read rooms ys xs at x same inside read =
     act_from rooms xs at x (subst (λ zs. slice_get zs at ≡ Some x) same (slice_get_read ys (length ys) at x refl inside read))
 
 module _ (rooms : ℕ) (xs : List Act) (at now : ℕ) (few : length xs ≤ 18446744073709551615) (is : now ≡ min (at + 1) 18446744073709551615) where
-  abbrev rests : Place → Option Reply → Plan
-  rests place last = rest_at rooms xs place.at last
+  abbrev rests : ScriptPlace → Option Reply → Plan
+  rests place last = script_rest rooms xs place.at last
 
-  abbrev go : Place → ℕ
-  go place = acts_left xs place.at
+  abbrev go : ScriptPlace → ℕ
+  go place = script_acts_left xs place.at
 
-  abbrev there : Place
+  abbrev there : ScriptPlace
   there = record { at = now }
 
   moved : (y : Act) (ys : List Act) → drop at xs ≡ y ∷ ys → (drop now xs ≡ ys) × (length xs - now < length xs - at)
@@ -53,17 +53,17 @@ module _ (rooms : ℕ) (xs : List Act) (at now : ℕ) (few : length xs ≤ 18446
       (ap (λ n. drop n xs) next ∙ on.0, omega arith)
 
   called : (room : ℕ) (call : CallOf) (ys : List Act) (b : Bool) → nat_lt room rooms ≡ b → drop at xs ≡ acts.Call room call ∷ ys
-      → Moves rooms rests go (if b then plans.Call room call (λ reply. script_plan rooms ys) else plans.Done) (acts_left xs at) (if b then acts.Call room call else acts.Done) there
+      → Moves rooms rests go (if b then plans.Call room call (λ reply. script_plan rooms ys) else plans.Done) (script_acts_left xs at) (if b then acts.Call room call else acts.Done) there
   called room call ys true e h = let m = moved (acts.Call room call) ys h in record { follows = (refl, λ reply. ap (script_plan rooms) m.0); room = ltb-true room rooms e; falls = m.1 }
   called room call ys false e h = record { follows = refl; room = tt; falls = tt }
 
-  moves_by : (zs : List Act) → drop at xs ≡ zs → Moves rooms rests go (script_plan rooms zs) (acts_left xs at) (act_of rooms zs) there
+  moves_by : (zs : List Act) → drop at xs ≡ zs → Moves rooms rests go (script_plan rooms zs) (script_acts_left xs at) (act_of rooms zs) there
   moves_by [] e = record { follows = refl; room = tt; falls = tt }
   moves_by (acts.Call room call ∷ ys) e = called room call ys (nat_lt room rooms) refl e
   moves_by (acts.Push item ∷ ys) e = let m = moved (acts.Push item) ys e in record { follows = (refl, ap (script_plan rooms) m.0); room = tt; falls = m.1 }
   moves_by (acts.Done ∷ ys) e = record { follows = refl; room = tt; falls = tt }
 
 pub script_moves : (rooms : ℕ) (xs : List Act) (at now : ℕ) (act : Act) (last : Option Reply) → length xs ≤ 18446744073709551615 → act ≡ act_of rooms (drop at xs) → now ≡ min (at + 1) 18446744073709551615
-    → Moves rooms (λ (place : Place) reply. rest_at rooms xs place.at reply) (λ (place : Place). acts_left xs place.at) (rest_at rooms xs at last) (acts_left xs at) act (record { at = now })
+    → Moves rooms (λ (place : ScriptPlace) reply. script_rest rooms xs place.at reply) (λ (place : ScriptPlace). script_acts_left xs place.at) (script_rest rooms xs at last) (script_acts_left xs at) act (record { at = now })
 script_moves rooms xs at now act last few begins is =
-    subst (λ a. Moves rooms (rests rooms xs at now few is) (go rooms xs at now few is) (script_plan rooms (drop at xs)) (acts_left xs at) a (record { at = now })) (sym begins) (moves_by rooms xs at now few is (drop at xs) refl)
+    subst (λ a. Moves rooms (rests rooms xs at now few is) (go rooms xs at now few is) (script_plan rooms (drop at xs)) (script_acts_left xs at) a (record { at = now })) (sym begins) (moves_by rooms xs at now few is (drop at xs) refl)

@@ -3,7 +3,7 @@ use Rattle.std.specs.Prelude.{◌≡◌, ℕ, false, ◌==◌, List, [], ◌∷�
 use Rattle.gx_base.specs.Plans.{Operator}
 use Rattle.gate_core.specs.Entries.{Each}
 use Rattle.gate_core.specs.Views.{GateView}
-use Rattle.rooms.specs.RoomsViews.{RoomsView, is_held}
+use Rattle.rooms.specs.RoomsViews.{RoomsView, is_room_held}
 use Rattle.rooms.specs.declared.values.Value.{Value}
 use Rattle.rooms.specs.declared.values.Value.TheVariants.{Object, Book}
 use Rattle.sessions.specs.Places.{IsFit}
@@ -34,5 +34,5 @@ AreNewGates (Book book ∷ values) = ⊥
 
 -- a run of an operator with so many rooms may begin in these
 pub record AreNewRooms {T S : Type 0} (count : ℕ) (rooms : RoomsView (Value T S)) : Type 0 where
-  pub free : (room : ℕ) → is_held rooms room ≡ false
+  pub free : (room : ℕ) → is_room_held rooms room ≡ false
   pub new : (op : Operator) → op.rooms ≡ count → op.ordered ≡ false → AreNewFor op rooms.told

@@ -23,12 +23,12 @@ act_of rooms [] = acts.Done
 act_of rooms (act ∷ rest) = act_within rooms act
 
 -- where an item's acts begin: at the place that its first number says
-abbrev pub start_of : List Act → ℤ → ℕ
-start_of acts (pos place) = place
-start_of acts (negsuc place) = length acts
+abbrev pub script_start : List Act → ℤ → ℕ
+script_start acts (pos place) = place
+script_start acts (negsuc place) = length acts
 
-abbrev pub rest_at : ℕ → List Act → ℕ → Option Reply → Plan
-rest_at rooms acts at last = script_plan rooms (drop at acts)
+abbrev pub script_rest : ℕ → List Act → ℕ → Option Reply → Plan
+script_rest rooms acts at last = script_plan rooms (drop at acts)
 
-abbrev pub acts_left : List Act → ℕ → ℕ
-acts_left acts at = length acts - at
+abbrev pub script_acts_left : List Act → ℕ → ℕ
+script_acts_left acts at = length acts - at

@@ -20,4 +20,4 @@ mod scripts;
 mod spent_cases;
 
 pub use lossy_rooms::LossyRooms;
-pub use scripts::{Place, Scripts};
+pub use scripts::{ScriptPlace, Scripts};

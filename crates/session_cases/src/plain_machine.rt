@@ -21,7 +21,7 @@ pub enum PlainEvent {
 }
 
 #[derive(Drop)]
-enum State<St: Drop> {
+enum WorkerState<St: Drop> {
     Idle,
     Running(St, Option<Reply>),
     Undoing,
@@ -34,7 +34,7 @@ pub struct PlainWorker<O: Operator> {
     iter: u64,
     next_iter: u64,
     item: Item,
-    state: State<O::St>,
+    state: WorkerState<O::St>,
     log: Vec<Step>,
     pushes: Vec<Item>,
 }
@@ -78,7 +78,7 @@ impl PlainBook {
         })
     }
 
-    fn is_held(&self, item: Item) -> bool {
+    fn is_item_held(&self, item: Item) -> bool {
         for hold in &self.holds {
             if hold.item == item {
                 return true;
@@ -89,7 +89,7 @@ impl PlainBook {
 
     fn first_free(&self) -> Option<Item> {
         for item in self.ready.iter() {
-            if !self.is_held(*item) {
+            if !self.is_item_held(*item) {
                 return Some(*item);
             }
         }
@@ -109,7 +109,7 @@ impl<O: Operator> PlainWorker<O> {
             iter: 0,
             next_iter: 0,
             item: Item::new(0, 0, 0, 0),
-            state: State::Idle,
+            state: WorkerState::Idle,
             log: Vec::new(alloc),
             pushes: Vec::new(alloc),
         }
@@ -121,7 +121,7 @@ impl<O: Operator> PlainWorker<O> {
 
     pub fn is_idle(&self) -> bool {
         match self.state {
-            State::Idle => true,
+            WorkerState::Idle => true,
             _ => false,
         }
     }
@@ -134,10 +134,10 @@ impl<O: Operator> PlainWorker<O> {
         book: &mut PlainBook,
         rooms: &mut [PlainRoom],
     ) -> Result<PlainEvent, NoMemory> {
-        match mem::replace(&mut self.state, State::Idle) {
-            State::Idle => self.take(op, book),
-            State::Running(st, last) => self.run_on(alloc, op, book, rooms, st, last),
-            State::Undoing => Ok(self.undo(book, rooms)),
+        match mem::replace(&mut self.state, WorkerState::Idle) {
+            WorkerState::Idle => self.take(op, book),
+            WorkerState::Running(st, last) => self.run_on(alloc, op, book, rooms, st, last),
+            WorkerState::Undoing => Ok(self.undo(book, rooms)),
         }
     }
 
@@ -148,7 +148,7 @@ impl<O: Operator> PlainWorker<O> {
         self.iter = self.next_iter;
         self.next_iter = self.next_iter.saturating_add(1);
         self.item = item;
-        self.state = State::Running(op.begin(item), None);
+        self.state = WorkerState::Running(op.begin(item), None);
         book.holds.push(PlainHold {
             worker: self.worker,
             iter: self.iter,
@@ -205,7 +205,7 @@ impl<O: Operator> PlainWorker<O> {
         gate.live.push(asked)?;
         let reply = Reply::new(asked.reply, 0, 0, 0);
         self.log.push(Step { room, call, reply })?;
-        self.state = State::Running(st, Some(reply));
+        self.state = WorkerState::Running(st, Some(reply));
         Ok(PlainEvent::Call(room, asked))
     }
 
@@ -214,7 +214,7 @@ impl<O: Operator> PlainWorker<O> {
         if self.log.is_empty() {
             self.end(book);
         } else {
-            self.state = State::Undoing;
+            self.state = WorkerState::Undoing;
         }
     }
 
@@ -222,7 +222,7 @@ impl<O: Operator> PlainWorker<O> {
         book.put_back(self.worker, self.iter);
         self.log.clear();
         self.pushes.clear();
-        self.state = State::Idle;
+        self.state = WorkerState::Idle;
     }
 
     fn undo(&mut self, book: &mut PlainBook, rooms: &mut [PlainRoom]) -> PlainEvent {

@@ -1,6 +1,6 @@
 ghost use Rattle.std.specs.Prelude.{◌≡◌, drop};
 ghost use Rattle.gx_base.specs.declared.acts.Act.TheVariants as acts;
-ghost use Rattle.session_cases.specs.Scripts.{act_within, act_of, start_of};
+ghost use Rattle.session_cases.specs.Scripts.{act_within, act_of, script_start};
 
 use commit_book::Operator;
 use gx_base::{Act, Item, Reply};
@@ -15,7 +15,7 @@ pub struct Scripts {
 
 /// Where a body stands in the list.
 #[derive(Clone, Copy, Debug, PartialEq, Eq, Drop)]
-pub struct Place {
+pub struct ScriptPlace {
     at: usize,
 }
 
@@ -28,7 +28,7 @@ impl Scripts {
     }
 
     fn start(&self, item: Item) -> usize
-        ensures { result ≡ start_of self.now.acts.items item.k0 }
+        ensures { result ≡ script_start self.now.acts.items item.k0 }
     {
         if item.k0 < 0 {
             self.acts.len()
@@ -58,20 +58,20 @@ impl Scripts {
 }
 
 impl Operator for Scripts {
-    type St = Place;
+    type St = ScriptPlace;
 
     ghost use Rattle.std.specs.Prelude.{false};
-    ghost use Rattle.session_cases.specs.Scripts.{script_plan, rest_at, acts_left};
+    ghost use Rattle.session_cases.specs.Scripts.{script_plan, script_rest, script_acts_left};
 
     ghost is_ordered = { λ _. false };
 
     ghost room_count = { λ scripts. scripts.rooms };
 
-    ghost plan = { λ scripts item. script_plan scripts.rooms (drop (start_of scripts.acts.items item.k0) scripts.acts.items) };
+    ghost plan = { λ scripts item. script_plan scripts.rooms (drop (script_start scripts.acts.items item.k0) scripts.acts.items) };
 
-    ghost rest = { λ scripts place last. rest_at scripts.rooms scripts.acts.items place.at last };
+    ghost rest = { λ scripts place last. script_rest scripts.rooms scripts.acts.items place.at last };
 
-    ghost to_go = { λ scripts place. acts_left scripts.acts.items place.at };
+    ghost to_go = { λ scripts place. script_acts_left scripts.acts.items place.at };
 
     fn rooms(&self) -> u32 {
         self.rooms
@@ -81,19 +81,19 @@ impl Operator for Scripts {
         false
     }
 
-    fn begin(&self, item: Item) -> Place {
-        Place {
+    fn begin(&self, item: Item) -> ScriptPlace {
+        ScriptPlace {
             at: self.start(item),
         }
     }
 
-    fn next(&self, place: &mut Place, _last: Option<Reply>) -> Act {
+    fn next(&self, place: &mut ScriptPlace, _last: Option<Reply>) -> Act {
         let act = self.act_at(place.at);
         place.at = place.at.saturating_add(1);
         act
     }
 
-    fn left(&self, place: &Place) -> u64 {
+    fn left(&self, place: &ScriptPlace) -> u64 {
         self.acts.len().saturating_sub(place.at) as u64
     }
 }

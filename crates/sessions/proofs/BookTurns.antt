@@ -6,7 +6,7 @@ use Rattle.gx_base.specs.Plans.{Operator}
 use Rattle.gx_base.specs.RoomViews.{RoomView}
 use Rattle.commit_book.specs.BookViews.{BookView}
 use Rattle.speculation.specs.Machines.{Place}
-use Rattle.rooms.specs.RoomsViews.{RoomsView, visited, entered, left, is_held}
+use Rattle.rooms.specs.RoomsViews.{RoomsView, visited, entered, left, is_room_held}
 use Rattle.rooms.specs.HandedOut.{IsHandedOut, IsLost}
 use Rattle.rooms.specs.Values.{tells}
 use Rattle.rooms.specs.declared.values.Value.{Value}
@@ -25,7 +25,7 @@ use Rattle.sessions.proofs.Turning.{held_again, no_loss, one_loss, turned}
 
 module _ {T S : Type 0} where
   abbrev pub Free : RoomsView (Value T S) → Type 0
-  Free v = (room : ℕ) → is_held v room ≡ false
+  Free v = (room : ℕ) → is_room_held v room ≡ false
 
   -- a session that holds no room
   pub free_of : (op : Operator) (a : RoomsView (Value T S)) (s : SessionView) → IsFit op a s → s.opened ≡ None → Free a
@@ -128,5 +128,5 @@ module _ {T S : Type 0} where
           (Some room) (one_loss a b s room loss needed) r answers moved;
       is_fit =
           fits a b s t (base_place a s) lost_place lost_left fit.acts same op fit within
-          (subst (IsFitIn op b t) (sym then_none) ((λ other. ap (λ (v : RoomsView (Value T S)). is_held v other) loss.same ∙ free_of op a s fit none other), body));
+          (subst (IsFitIn op b t) (sym then_none) ((λ other. ap (λ (v : RoomsView (Value T S)). is_room_held v other) loss.same ∙ free_of op a s fit none other), body));
     }

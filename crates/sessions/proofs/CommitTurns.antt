@@ -18,7 +18,7 @@ use Rattle.speculation.specs.Machines.{Place, Turned, committed, turn_at}
 use Rattle.speculation.specs.Sessions.{Finished, ended, undoing}
 use Rattle.speculation.proofs.IterationEntries.{no_mades}
 use Rattle.speculation.proofs.Putting.{no_bool, numbers_equal}
-use Rattle.rooms.specs.RoomsViews.{RoomsView, is_held, entered}
+use Rattle.rooms.specs.RoomsViews.{RoomsView, is_room_held, entered}
 use Rattle.rooms.specs.HandedOut.{IsHandedOut}
 use Rattle.rooms.specs.Values.{tells}
 use Rattle.rooms.specs.declared.values.Value.{Value}
@@ -104,7 +104,7 @@ module _ {T S St : Type 0} (op : Operator) (a b : RoomsView (Value T S)) (rest :
   ordered : was.ordered ≡ a.ordered
   ordered = handed.suits.ordered_as refl
 
-  held_by : (room : ℕ) (k : Bool) → (a.book == room) ≡ k → is_held inside room ≡ (room == a.book)
+  held_by : (room : ℕ) (k : Bool) → (a.book == room) ≡ k → is_room_held inside room ≡ (room == a.book)
   held_by room true e =
       let same : a.book ≡ room = numbers_equal a.book room e in
       ap (λ n. is_some (put a.held a.book (Some seen) n)) (sym same) ∙ ap (λ (o : Option RoomView). is_some o) (put_same a.held a.book (Some seen)) ∙ sym (nat_eq_equiv.symm room a.book ∙ e)

@@ -9,7 +9,7 @@ use Rattle.gate_core.specs.Views.{GateView}
 use Rattle.commit_book.specs.BookViews.{BookView}
 use Rattle.speculation.specs.Machines.{Place}
 use Rattle.speculation.proofs.Putting.{no_bool, numbers_equal}
-use Rattle.rooms.specs.RoomsViews.{RoomsView, entries_for, visited, entered, left, is_held, mark_entered}
+use Rattle.rooms.specs.RoomsViews.{RoomsView, entries_for, visited, entered, left, is_room_held, mark_entered}
 use Rattle.rooms.specs.HandedOut.{IsHandedOut, MayHaveMark, MayBeLeft}
 use Rattle.rooms.specs.Values.{tells}
 use Rattle.rooms.specs.declared.values.Value.{Value}
@@ -17,7 +17,7 @@ use Rattle.rooms.specs.declared.values.Value.TheVariants.{Object, Book}
 use Rattle.rooms.proofs.CallerLemmas.{put_same, put_other, mark_entered_here}
 use Rattle.sessions.specs.declared.events.Event.{Event as CodeEvent}
 use Rattle.sessions.specs.declared.events.Stop.{Stop}
-use Rattle.sessions.specs.Places.{IsLogOf, IsFit, AreStepsWithin, IsFitIn, gate_of, book_of, IsGate, IfTold, IsBookIn, StandsOn}
+use Rattle.sessions.specs.Places.{IsLogOf, IsFit, AreStepsWithin, IsFitIn, gate_of, book_of, IsGateValue, IfTold, IsBookIn, StandsOn}
 use Rattle.sessions.specs.SessionViews.{OpenCommit, SessionView}
 use Rattle.sessions.specs.TurnMoves.{RoomMoves}
 use Rattle.sessions.specs.Turns.{OthersStay, Answers, HasMoved, TakesTurn, IsLostIn}
@@ -100,26 +100,26 @@ module _ {T S : Type 0} where
   gate_visited a x b room was left_as now handed enters leaves same = record { handed = handed; visit = leaves ∙ (λ i. left tells (enters i) room (Object (same i))) }
 
   -- what is handed out of a room before the book's
-  pub handed_gate : (a : RoomsView (Value T S)) (room : ℕ) (value : Value T S) → IsHandedOut tells a room value → room < a.book → IsGate value
+  pub handed_gate : (a : RoomsView (Value T S)) (room : ℕ) (value : Value T S) → IsHandedOut tells a room value → room < a.book → IsGateValue value
   handed_gate a room (Object gate) handed below = refl
   handed_gate a room (Book book) handed below = absurd (no_bool (room == a.book) (sym handed.suits.book_where) (other_than_room room a.book below))
 
-  pub handed_gates : (a : RoomsView (Value T S)) (room : ℕ) (found : Option (Value T S)) → room < a.book → IfSome found (λ value. IsHandedOut tells a room value) → IfSome found IsGate
+  pub handed_gates : (a : RoomsView (Value T S)) (room : ℕ) (found : Option (Value T S)) → room < a.book → IfSome found (λ value. IsHandedOut tells a room value) → IfSome found IsGateValue
   handed_gates a room None below handed = handed
   handed_gates a room (Some value) below handed = handed_gate a room value handed below
 
-  pub value_visited : (a x b : RoomsView (Value T S)) (room : ℕ) (value left_as : Value T S) (now : GateView) → IsGate value → IsGate left_as → IsHandedOut tells a room value → x ≡ entered tells a room value → b ≡ left tells x room left_as
+  pub value_visited : (a x b : RoomsView (Value T S)) (room : ℕ) (value left_as : Value T S) (now : GateView) → IsGateValue value → IsGateValue left_as → IsHandedOut tells a room value → x ≡ entered tells a room value → b ≡ left tells x room left_as
       → gate_of left_as ≡ now → WasVisited a b room (gate_of value) now
   value_visited a x b room value left_as now is_gate left_gate handed enters leaves same =
       gate_visited a x b room (gate_of value) (gate_of left_as) now (subst (IsHandedOut tells a room) is_gate handed) (enters ∙ ap (entered tells a room) is_gate) (leaves ∙ ap (left tells x room) left_gate) same
 
   -- the gate has the mark that it had
-  pub value_mark : (a x : RoomsView (Value T S)) (room : ℕ) (value : Value T S) (mark : ℕ) → IsGate value → x ≡ entered tells a room value → mark ≡ (gate_of value).mark → MayHaveMark x room mark
+  pub value_mark : (a x : RoomsView (Value T S)) (room : ℕ) (value : Value T S) (mark : ℕ) → IsGateValue value → x ≡ entered tells a room value → mark ≡ (gate_of value).mark → MayHaveMark x room mark
   value_mark a x room value mark is_gate enters same =
       let e : x ≡ entered tells a room (Object (gate_of value)) = enters ∙ ap (entered tells a room) is_gate in
       inl (same ∙ sym (ap (λ (v : RoomsView (Value T S)). mark_entered v room) e ∙ mark_entered_here tells a room (Object (gate_of value))))
 
-  pub value_may_be_left : (x : RoomsView (Value T S)) (room : ℕ) (value : Value T S) → IsGate value → room < x.book → MayHaveMark x room (gate_of value).mark → MayBeLeft x room (tells value)
+  pub value_may_be_left : (x : RoomsView (Value T S)) (room : ℕ) (value : Value T S) → IsGateValue value → room < x.book → MayHaveMark x room (gate_of value).mark → MayBeLeft x room (tells value)
   value_may_be_left x room value is_gate below mark = subst (λ (v : Value T S). MayBeLeft x room (tells v)) (sym is_gate) (record {
     suits = record { book_where = sym (other_than_room room x.book below); ordered_as = λ e. absurd (no_bool false e refl) };
     mark = λ _. mark;
@@ -130,7 +130,7 @@ module _ {T S : Type 0} where
     field_of : {A : Type 0} → (f : RoomsView (Value T S) → A) → f b ≡ f (left tells (entered tells a room (Object was)) room (Object now))
     field_of f = ap f visit.visit
 
-    pub gate_visit_free : ((other : ℕ) → is_held a other ≡ false) → (other : ℕ) → is_held b other ≡ false
+    pub gate_visit_free : ((other : ℕ) → is_room_held a other ≡ false) → (other : ℕ) → is_room_held b other ≡ false
     gate_visit_free free other = ap (λ (f : ℕ → Option RoomView). is_some (f other)) (field_of (λ v. v.held)) ∙ held_again a.held room (tells {T = T} {S = S} (Object was)) free other
 
     pub gate_visit_lost : (other : ℕ) → b.lost other ≡ a.lost other

@@ -11,7 +11,7 @@ use Rattle.speculation.specs.Machines.{Place}
 use Rattle.speculation.specs.Sessions.{has_no_step}
 use Rattle.speculation.proofs.Putting.{numbers_equal}
 use Rattle.speculation.proofs.Steps.{is_none}
-use Rattle.rooms.specs.RoomsViews.{RoomsView, entries_for, told_with, visited, entered, left, is_held}
+use Rattle.rooms.specs.RoomsViews.{RoomsView, entries_for, told_with, visited, entered, left, is_room_held}
 use Rattle.rooms.specs.HandedOut.{IsValueTold, IsLost, CountHasRisen}
 use Rattle.rooms.specs.Values.{tells}
 use Rattle.rooms.specs.declared.values.Value.{Value}
@@ -37,11 +37,11 @@ module _ {T S : Type 0} where
   -- nothing was changed but what can't be seen
   pub record Quiet (a x : RoomsView (Value T S)) : Type 0 where
     pub gates : SameGates a x
-    pub free : (room : ℕ) → is_held x room ≡ false
+    pub free : (room : ℕ) → is_room_held x room ≡ false
     pub lost : (room : ℕ) → x.lost room ≡ a.lost room
     pub told_book : x.told x.book ≡ a.told a.book
 
-  pub quiet_itself : (a : RoomsView (Value T S)) → ((room : ℕ) → is_held a room ≡ false) → Quiet a a
+  pub quiet_itself : (a : RoomsView (Value T S)) → ((room : ℕ) → is_room_held a room ≡ false) → Quiet a a
   quiet_itself a free = record { gates = same_gates a; free = free; lost = λ room. refl; told_book = refl }
 
   told_again : (o : Option (Value T S)) (g : GateView) → IsValueTold o (Object g) → told_with o (Object g) ≡ o
@@ -49,7 +49,7 @@ module _ {T S : Type 0} where
   told_again (Some value) g h = ap Some h
 
   -- a gate was left as it was
-  module _ (a x : RoomsView (Value T S)) (room : ℕ) (was : GateView) (visit : WasVisited a x room was was) (below : room < a.book) (free : (other : ℕ) → is_held a other ≡ false) where
+  module _ (a x : RoomsView (Value T S)) (room : ℕ) (was : GateView) (visit : WasVisited a x room was was) (below : room < a.book) (free : (other : ℕ) → is_room_held a other ≡ false) where
     abbrev seen : RoomView
     seen = tells {T = T} {S = S} (Object was)
 
@@ -125,7 +125,7 @@ module _ {T S : Type 0} where
               (told_after base (ap (λ (v : RoomsView (Value T S)). v.told v.book) e ∙ quiet.told_book) base_in) base_ordered None
               (no_loss a b s (λ room. ap (λ (v : RoomsView (Value T S)). v.lost room) e ∙ quiet.lost room)) r answers
               (moved (ap (λ (v : RoomsView (Value T S)). v.moves) e ∙ sym (ap (λ (k : Bool). if k then at_book a.book gates gates base base x.moves else x.moves) n)));
-          is_fit = fits a b s undoing (place base s) (place base undoing) l fit.acts same op fit within ((λ room. ap (λ (v : RoomsView (Value T S)). is_held v room) e ∙ quiet.free room), tt);
+          is_fit = fits a b s undoing (place base s) (place base undoing) l fit.acts same op fit within ((λ room. ap (λ (v : RoomsView (Value T S)). is_room_held v room) e ∙ quiet.free room), tt);
         }
 
     over_turn : (was : BookView) → has_no_step c.log ≡ true → BookWasVisited x b was (put_back was c.worker c.iter) → (r : Result CodeEvent Stop)
@@ -173,7 +173,7 @@ module _ {T S : Type 0} where
               turned op a b s undoing (place base s) (place base undoing) l (stand base base_in base_ordered) fit same refl
               (told_after base (ap (λ (v : RoomsView (Value T S)). v.told v.book) loss.same ∙ quiet.told_book) base_in) base_ordered (Some a.book)
               (quiet_loss loss (needed e)) r answers (moved (lost_moves x b x.book loss));
-          is_fit = fits a b s undoing (place base s) (place base undoing) l fit.acts same op fit within ((λ room. ap (λ (v : RoomsView (Value T S)). is_held v room) loss.same ∙ quiet.free room), tt);
+          is_fit = fits a b s undoing (place base s) (place base undoing) l fit.acts same op fit within ((λ room. ap (λ (v : RoomsView (Value T S)). is_room_held v room) loss.same ∙ quiet.free room), tt);
         }
 
     -- an iteration has given up, and so its turn ends

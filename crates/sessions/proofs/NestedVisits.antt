@@ -6,7 +6,7 @@ use Rattle.gx_base.specs.RoomViews.{RoomView}
 use Rattle.gate_core.specs.Views.{GateView}
 use Rattle.commit_book.specs.BookViews.{BookView}
 use Rattle.speculation.proofs.Putting.{numbers_equal}
-use Rattle.rooms.specs.RoomsViews.{RoomsView, told_with, enters as entry, leaves as exit, visited, entered, left, is_held}
+use Rattle.rooms.specs.RoomsViews.{RoomsView, told_with, enters as entry, leaves as exit, visited, entered, left, is_room_held}
 use Rattle.rooms.specs.HandedOut.{IsHandedOut, IsLost, CountHasRisen}
 use Rattle.rooms.specs.Values.{tells}
 use Rattle.rooms.specs.declared.values.Value.{Value}
@@ -57,29 +57,29 @@ module _ {T S : Type 0} (a x y b : RoomsView (Value T S)) (room : ℕ) (seen now
   pub nested_moves : b.moves ≡ exit a.book (Book now) ∷ visited room (Object was) (Object is) (entry a.book (Book seen) ∷ a.moves)
   nested_moves = b_of (λ v. v.moves) ∙ (λ i. exit (y_book i) (Book now) ∷ y_of (λ v. v.moves) i) ∙ ap (λ (ms : RoomMoves T S). exit a.book (Book now) ∷ visited room (Object was) (Object is) ms) (x_of (λ v. v.moves))
 
-  module _ (free : (other : ℕ) → is_held a other ≡ false) where
-    x_free : (other : ℕ) → (a.book == other) ≡ false → is_held x other ≡ false
+  module _ (free : (other : ℕ) → is_room_held a other ≡ false) where
+    x_free : (other : ℕ) → (a.book == other) ≡ false → is_room_held x other ≡ false
     x_free other e = ap (λ (o : Option RoomView). is_some o) (x_of (λ v. v.held other) ∙ put_other a.held a.book _ other e) ∙ free other
 
-    y_by : (other : ℕ) → (a.book == other) ≡ false → (c : Bool) → (room == other) ≡ c → is_held y other ≡ false
+    y_by : (other : ℕ) → (a.book == other) ≡ false → (c : Bool) → (room == other) ≡ c → is_room_held y other ≡ false
     y_by other e true r =
         ap (λ (o : Option RoomView). is_some o)
         (y_of (λ v. v.held other) ∙ ap (λ n. put (put x.held room (Some (tells {T = T} {S = S} (Object was)))) room None n) (sym (numbers_equal room other r)) ∙ put_same (put x.held room (Some (tells {T = T} {S = S} (Object was)))) room None)
     y_by other e false r =
         ap (λ (o : Option RoomView). is_some o) (y_of (λ v. v.held other) ∙ put_other (put x.held room (Some (tells {T = T} {S = S} (Object was)))) room None other r ∙ put_other x.held room _ other r) ∙ x_free other e
 
-    b_by : (other : ℕ) → (c : Bool) → (a.book == other) ≡ c → is_held b other ≡ false
+    b_by : (other : ℕ) → (c : Bool) → (a.book == other) ≡ c → is_room_held b other ≡ false
     b_by other true e =
         ap (λ (o : Option RoomView). is_some o) (b_of (λ v. v.held other) ∙ ap (λ n. put y.held y.book None n) (sym (y_book ∙ numbers_equal a.book other e)) ∙ put_same y.held y.book None)
     b_by other false e =
         ap (λ (o : Option RoomView). is_some o) (b_of (λ v. v.held other) ∙ put_other y.held y.book None other (ap (λ n. n == other) y_book ∙ e)) ∙ y_by other e (room == other) refl
 
-    pub nested_free : (other : ℕ) → is_held b other ≡ false
+    pub nested_free : (other : ℕ) → is_room_held b other ≡ false
     nested_free other = b_by other (a.book == other) refl
 
 -- a room is free still, when the book was entered
-pub entered_free : {T S : Type 0} (a x : RoomsView (Value T S)) (value : Value T S) (room : ℕ) → x ≡ entered tells a a.book value → room < a.book → is_held a room ≡ false → is_held x room ≡ false
-entered_free {T} {S} a x value room e l free = ap (λ (v : RoomsView (Value T S)). is_held v room) e ∙ held_elsewhere tells a a.book value room (other_than_book a.book room l) ∙ free
+pub entered_free : {T S : Type 0} (a x : RoomsView (Value T S)) (value : Value T S) (room : ℕ) → x ≡ entered tells a a.book value → room < a.book → is_room_held a room ≡ false → is_room_held x room ≡ false
+entered_free {T} {S} a x value room e l free = ap (λ (v : RoomsView (Value T S)). is_room_held v room) e ∙ held_elsewhere tells a a.book value room (other_than_book a.book room l) ∙ free
 
 pub entered_below : {T S : Type 0} (a x : RoomsView (Value T S)) (value : Value T S) (room : ℕ) → x ≡ entered tells a a.book value → room < a.book → room < x.book
 entered_below {T} {S} a x value room e l = subst (λ (v : RoomsView (Value T S)). room < v.book) (sym e) l
@@ -89,13 +89,13 @@ entered_below {T} {S} a x value room e l = subst (λ (v : RoomsView (Value T S))
 pub record LostNested {T S : Type 0} (a b : RoomsView (Value T S)) (room : ℕ) (seen : BookView) : Type 0 where
   pub gates : SameGates a b
   pub told : IsBookIn b None seen
-  pub free : (other : ℕ) → is_held b other ≡ false
+  pub free : (other : ℕ) → is_room_held b other ≡ false
   pub risen : CountHasRisen (a.lost room) (b.lost room)
   pub others : (other : ℕ) → (room == other) ≡ false → b.lost other ≡ a.lost other
   pub moves : b.moves ≡ visited a.book (Book seen) (Book seen) a.moves
 
 pub lost_nested : {T S : Type 0} (a x y b : RoomsView (Value T S)) (room : ℕ) (seen : BookView) → IsHandedOut tells a a.book (Book seen) → x ≡ entered tells a a.book (Book seen) → IsLost x y room
-    → b ≡ left tells y y.book (Book seen) → ((other : ℕ) → is_held a other ≡ false) → LostNested a b room seen
+    → b ≡ left tells y y.book (Book seen) → ((other : ℕ) → is_room_held a other ≡ false) → LostNested a b room seen
 lost_nested {T} {S} a x y b room seen handed enters loss leaves free =
     let e : RoomsView (Value T S) = entered tells a a.book (Book seen) in
     let loss_e : IsLost e y room = subst (λ (v : RoomsView (Value T S)). IsLost v y room) enters loss in
@@ -107,7 +107,7 @@ lost_nested {T} {S} a x y b room seen handed enters loss leaves free =
     record {
       gates = subst (SameGates a) (sym b_is) (record { book = gates.book; ordered = gates.ordered; acts_for = gates.acts_for; telling = gates.telling; ordered_told = gates.ordered_told; live = gates.live; told = gates.told });
       told = subst (λ (v : RoomsView (Value T S)). IsBookIn v None seen) (sym b_is) (book_visit_told a at_once seen seen visit);
-      free = λ other. ap (λ (v : RoomsView (Value T S)). is_held v other) b_is ∙ book_visit_free a at_once seen seen visit free other;
+      free = λ other. ap (λ (v : RoomsView (Value T S)). is_room_held v other) b_is ∙ book_visit_free a at_once seen seen visit free other;
       risen = subst (λ n. CountHasRisen (a.lost room) n) (sym (ap (λ (v : RoomsView (Value T S)). v.lost room) b_is ∙ put_same a.lost room (y.lost room))) loss_e.risen;
       others = λ other n. ap (λ (v : RoomsView (Value T S)). v.lost other) b_is ∙ put_other a.lost room (y.lost room) other n;
       moves = ap (λ (v : RoomsView (Value T S)). v.moves) b_is;

@@ -7,7 +7,7 @@ use Rattle.gx_base.specs.RoomViews.{RoomView}
 use Rattle.gate_core.specs.Entries.{has_entry}
 use Rattle.gate_core.specs.Views.{GateView, release}
 use Rattle.speculation.proofs.Putting.{no_bool, numbers_equal, same_number}
-use Rattle.rooms.specs.RoomsViews.{RoomsView, nowhere, is_held, holds_book, commits_in, commits_entered, entries_for, is_release, told_with, visited, entered, left}
+use Rattle.rooms.specs.RoomsViews.{RoomsView, nowhere, is_room_held, holds_book, commits_in, commits_entered, entries_for, is_release, told_with, visited, entered, left}
 use Rattle.rooms.specs.HandedOut.{IsHandedOut, MayHaveMark}
 use Rattle.rooms.specs.Values.{tells}
 use Rattle.rooms.specs.declared.values.Value.{Value}
@@ -81,7 +81,7 @@ module _ {T S : Type 0} (worker iter number : ℕ) where
   -- ---- one room more
 
   module _ (a x y : RoomsView (Value T S)) (front : List ℕ) (room : ℕ) (was : GateView) (h : AreReleased a x worker iter number front) (visit : WasVisited x y room was (release was worker iter number))
-      (new : is_room_among front room ≡ false) (below : room < a.book) (free : is_held x room ≡ false) where
+      (new : is_room_among front room ≡ false) (below : room < a.book) (free : is_room_held x room ≡ false) where
     abbrev now : GateView
     now = release was worker iter number
 
@@ -222,7 +222,7 @@ module _ {T S : Type 0} (worker iter number : ℕ) where
     pub room_in_range : room < x.book
     room_in_range = subst (λ n. room < n) (sym h.book) room_below
 
-    pub room_free : is_held x room ≡ false
+    pub room_free : is_room_held x room ≡ false
     room_free = ap (λ (f : ℕ → Option RoomView). is_some (f room)) h.held ∙ may.held room ∙ other_than_room room a.book room_below
 
     book_held : holds_book x ≡ true
@@ -253,7 +253,7 @@ module _ {T S : Type 0} (worker iter number : ℕ) where
     pub may_leave : (y : RoomsView (Value T S)) (was left_as : GateView) → y ≡ entered tells x room (Object was) → left_as ≡ release was worker iter number → MayLeaveGate y room left_as.mark
     may_leave y was left_as e is = record {
       in_range = subst (λ (v : RoomsView (Value T S)). room < v.book) (sym e) room_in_range;
-      held = ap (λ (v : RoomsView (Value T S)). is_held v room) e ∙ held_entered tells x room (Object was);
+      held = ap (λ (v : RoomsView (Value T S)). is_room_held v room) e ∙ held_entered tells x room (Object was);
       mark = subst (λ n. MayHaveMark y room n) (sym (ap (λ (g : GateView). g.mark) is)) (mark_by y was (has_entry worker iter was.live) e);
     }
 

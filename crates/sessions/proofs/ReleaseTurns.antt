@@ -14,7 +14,7 @@ use Rattle.commit_book.specs.BookViews.{BookView}
 use Rattle.speculation.specs.Machines.{Place}
 use Rattle.speculation.proofs.Putting.{no_bool, numbers_equal, same_number}
 use Rattle.speculation.proofs.GateTurns.{log_releases}
-use Rattle.rooms.specs.RoomsViews.{RoomsView, is_held, commits_in, commits_entered, entries_for, told_with, leaves as exit, left as rooms_left}
+use Rattle.rooms.specs.RoomsViews.{RoomsView, is_room_held, commits_in, commits_entered, entries_for, told_with, leaves as exit, left as rooms_left}
 use Rattle.rooms.specs.HandedOut.{IsLost, CountHasRisen}
 use Rattle.rooms.specs.Values.{tells}
 use Rattle.rooms.specs.declared.values.Value.{Value}
@@ -178,7 +178,7 @@ module _ {T S St : Type 0} (op : Operator) (a b : RoomsView (Value T S)) (rest :
   steps = steps_in left c.log
 
   -- what a session that makes a commit asks of its rooms
-  pub held_of : IsFit op a making → (room : ℕ) → is_held a room ≡ (room == a.book)
+  pub held_of : IsFit op a making → (room : ℕ) → is_room_held a room ≡ (room == a.book)
   held_of fit = fit.doing.0
 
   pub commit_of : IsFit op a making → IsCommitOf op making made
@@ -221,8 +221,8 @@ module _ {T S St : Type 0} (op : Operator) (a b : RoomsView (Value T S)) (rest :
   b_free_by mid fit h room false e =
       ap (λ (o : Option RoomView). is_some o) (put_other mid.held mid.book None room e ∙ ap (λ f. f room) h.held) ∙ held_of fit room ∙ nat_eq_equiv.symm room a.book ∙ ap (λ n. n == room) (sym h.book) ∙ e
 
-  b_free : (mid : RoomsView (Value T S)) → IsFit op a making → AreReleased a mid c.worker c.iter number left → b ≡ rooms_left tells mid mid.book (Book book) → (room : ℕ) → is_held b room ≡ false
-  b_free mid fit h leaves room = ap (λ (v : RoomsView (Value T S)). is_held v room) leaves ∙ b_free_by mid fit h room (mid.book == room) refl
+  b_free : (mid : RoomsView (Value T S)) → IsFit op a making → AreReleased a mid c.worker c.iter number left → b ≡ rooms_left tells mid mid.book (Book book) → (room : ℕ) → is_room_held b room ≡ false
+  b_free mid fit h leaves room = ap (λ (v : RoomsView (Value T S)). is_room_held v room) leaves ∙ b_free_by mid fit h room (mid.book == room) refl
 
   book_told : (mid : RoomsView (Value T S)) → b ≡ rooms_left tells mid mid.book (Book book) → IsBookIn b None book
   book_told mid leaves =

@@ -15,7 +15,7 @@ use Rattle.speculation.specs.Sessions.{ended, undone_to, last_step, steps_before
 use Rattle.speculation.proofs.Putting.{both_are, same_number}
 use Rattle.speculation.proofs.Steps.{last_is_none, last_is_last, is_none}
 use Rattle.speculation.proofs.GateTurns.{log_undoes, log_back_elsewhere}
-use Rattle.rooms.specs.RoomsViews.{RoomsView, entered, left, is_held}
+use Rattle.rooms.specs.RoomsViews.{RoomsView, entered, left, is_room_held}
 use Rattle.rooms.specs.HandedOut.{IsHandedOut, IsLost}
 use Rattle.rooms.specs.declared.values.Value.{Value}
 use Rattle.rooms.specs.declared.values.Value.TheVariants.{Book}
@@ -148,7 +148,7 @@ module _ {T S St : Type 0} (op : Operator) (a b : RoomsView (Value T S)) (rest :
       let h : IsFit op a undoing_view = subst (λ x. IsFit op a (view_in rest c x)) e fit in
       subst (λ n. last.room < n) (sym h.book) (within_last op.rooms c.log last l h.within)
 
-  pub nothing_held : (f : CodePhase St) → f ≡ code.Undoing → IsFit op a (view_in rest c f) → (room : ℕ) → is_held a room ≡ false
+  pub nothing_held : (f : CodePhase St) → f ≡ code.Undoing → IsFit op a (view_in rest c f) → (room : ℕ) → is_room_held a room ≡ false
   nothing_held f e fit = free_of op a undoing_view (subst (λ x. IsFit op a (view_in rest c x)) e fit) refl
 
   pub undo_one : IsFit op a undoing_view → (last : Step) → last_step c.log ≡ Some last → has_no_step (steps_before c.log) ≡ false → (was : GateView) → WasVisited a b last.room was (undo_last was c.worker c.iter)
@@ -159,7 +159,7 @@ module _ {T S St : Type 0} (op : Operator) (a b : RoomsView (Value T S)) (rest :
       let below : last.room < a.book = subst (λ n. last.room < n) (sym fit.book) (within_last op.rooms c.log last e fit.within) in
       let bk : BookView = base_book_in a None in
       let p : Place = gate_place a s last.room was bk in
-      let free : (room : ℕ) → is_held a room ≡ false = free_of op a s fit refl in
+      let free : (room : ℕ) → is_room_held a room ≡ false = free_of op a s fit refl in
       let base : StandsOn a s (base_place a s) = base_stands op a s fit refl in
       let q : Place = record { gates = put (put (base_gates a) last.room was) last.room (undo_last was c.worker c.iter); book = bk; session = t.at } in
       let u : Turned = undo_step p c.worker s.at (Some last) in

@@ -4,6 +4,8 @@ use Rattle.std.specs.FinMap as map
 use Rattle.gx_base.specs.declared.acts.Entry.{Entry}
 use Rattle.gx_base.specs.declared.acts.Step.{Step}
 use Rattle.gx_base.specs.declared.items.Item.{Item}
+use Rattle.gx_base.specs.declared.kinds.Kind.TheVariants.{Set}
+use Rattle.gx_base.specs.Kinds.{kind_number}
 use Rattle.gx_base.specs.BodyRuns.{RunsTo}
 use Rattle.gx_base.specs.Outcomes.{WholeCommit}
 use Rattle.gx_base.specs.Plans.{Operator, Done}
@@ -13,7 +15,7 @@ use Rattle.gate_core.specs.Views.{GateView}
 use Rattle.commit_book.specs.BookViews.{BookView, new_book}
 use Rattle.speculation.specs.Sessions.{Phase, Idle, Running, Finished, Undoing}
 use Rattle.speculation.specs.Machines.{Place}
-use Rattle.rooms.specs.RoomsViews.{RoomsView, is_held, commits_entered}
+use Rattle.rooms.specs.RoomsViews.{RoomsView, is_room_held, commits_entered}
 use Rattle.rooms.specs.declared.values.Value.{Value}
 use Rattle.rooms.specs.declared.values.Value.TheVariants.{Object, Book}
 use Rattle.sessions.specs.RoomLists.{is_room_among, steps_in, AreRoomsRising, AreRoomsBelow}
@@ -23,15 +25,15 @@ use Rattle.sessions.specs.SessionViews.{OpenCommit, SessionView}
 
 -- a gate without entries, over an empty set, with a table in which each two calls are in conflict
 abbrev pub no_gate : GateView
-no_gate = record { kind = 0; table = map.empty; state = no_state; done = []; live = []; mark = 0 }
+no_gate = record { kind = kind_number Set; table = map.empty; state = no_state; done = []; live = []; mark = 0 }
 
 abbrev pub gate_of : {T S : Type 0} → Value T S → GateView
 gate_of (Object gate) = gate
 gate_of (Book book) = no_gate
 
 -- a value is a gate
-abbrev pub IsGate : {T S : Type 0} → Value T S → Type 0
-IsGate value = value ≡ Object (gate_of value)
+abbrev pub IsGateValue : {T S : Type 0} → Value T S → Type 0
+IsGateValue value = value ≡ Object (gate_of value)
 
 abbrev pub book_of : {T S : Type 0} → Value T S → BookView
 book_of (Object gate) = new_book false []
@@ -84,10 +86,10 @@ pub record IsCommitOf (op : Operator) (session : SessionView) (made : OpenCommit
 
 -- no room is held, and the body is where the log says
 abbrev pub IsFitIn : {V : Type 0} → Operator → RoomsView V → SessionView → Option OpenCommit → Type 0
-IsFitIn op rooms session None = ((room : ℕ) → is_held rooms room ≡ false) × IsBody op session session.at.phase
+IsFitIn op rooms session None = ((room : ℕ) → is_room_held rooms room ≡ false) × IsBody op session session.at.phase
 -- or the book is held, which has the commit, and no room that is left was released under its number
 IsFitIn op rooms session (Some made) =
-    ((room : ℕ) → is_held rooms room ≡ (room == rooms.book)) × IsCommitOf op session made × (made.book.ordered ≡ rooms.ordered)
+    ((room : ℕ) → is_room_held rooms room ≡ (room == rooms.book)) × IsCommitOf op session made × (made.book.ordered ≡ rooms.ordered)
     × (commits_entered rooms ≡ made.number) × ((room : ℕ) → is_room_among made.left room ≡ true → rooms.released room ≡ false)
 
 -- a session may take a turn in these rooms

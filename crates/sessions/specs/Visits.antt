@@ -7,7 +7,7 @@ use Rattle.commit_book.specs.declared.refusals.CommitRefuse.{CommitRefuse}
 use Rattle.commit_book.specs.declared.refusals.CommitRefuse.TheVariants.{NotReady, NotLeast, Spent, Kept, NoMemory}
 use Rattle.speculation.specs.Sessions.{has_no_step}
 use Rattle.rooms.specs.HandedOut.{IsHandedOut, IsLost, MayHaveMark, MayHaveCommits}
-use Rattle.rooms.specs.RoomsViews.{RoomsView, is_held, commits_entered, entries_for, told_with, entered, left}
+use Rattle.rooms.specs.RoomsViews.{RoomsView, is_room_held, commits_entered, entries_for, told_with, entered, left}
 use Rattle.rooms.specs.Values.{tells}
 use Rattle.rooms.specs.declared.values.Value.{Value}
 use Rattle.rooms.specs.declared.values.Value.TheVariants.{Object, Book}
@@ -25,12 +25,12 @@ use Rattle.sessions.specs.declared.session.Phase.TheVariants as code
 -- a gate with this mark may be left in its room
 pub record MayLeaveGate {V : Type 0} (view : RoomsView V) (room now : ℕ) : Type 0 where
   pub in_range : room < view.book
-  pub held : is_held view room ≡ true
+  pub held : is_room_held view room ≡ true
   pub mark : MayHaveMark view room now
 
 -- a book with these commits may be left in its room
 pub record MayLeaveBook {V : Type 0} (view : RoomsView V) (book : BookView) : Type 0 where
-  pub held : is_held view view.book ≡ true
+  pub held : is_room_held view view.book ≡ true
   pub ordered : book.ordered ≡ view.ordered
   pub commits : MayHaveCommits view book.commits
 
@@ -71,7 +71,7 @@ pub record AreReleased {T S : Type 0} (before after : RoomsView (Value T S)) (wo
 pub record MayRelease {V : Type 0} (view : RoomsView V) (number : ℕ) (left : List ℕ) : Type 0 where
   pub rising : AreRoomsRising left
   pub below : AreRoomsBelow view.book left
-  pub held : (room : ℕ) → is_held view room ≡ (room == view.book)
+  pub held : (room : ℕ) → is_room_held view room ≡ (room == view.book)
   pub count : commits_entered view ≡ number
   pub unreleased : (room : ℕ) → is_room_among left room ≡ true → view.released room ≡ false
   pub small : number < 2 ^ 64 - 1

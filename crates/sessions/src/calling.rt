@@ -3,7 +3,7 @@ ghost use Rattle.gx_base.specs.declared.acts.Step.{Step};
 ghost use Rattle.gate_core.specs.CallAnswers.{GateRefusalFits, IsAdmitted};
 ghost use Rattle.commit_book.specs.SerialRuns.{operator_of};
 ghost use Rattle.sessions.specs.Bodies.{IsAtWork, HasAsked, IsNoted};
-ghost use Rattle.sessions.specs.Places.{gate_of, IsFit, IsGate};
+ghost use Rattle.sessions.specs.Places.{gate_of, IsFit, IsGateValue};
 ghost use Rattle.sessions.specs.SessionViews.{core_of, view_of};
 ghost use Rattle.sessions.specs.Turns.{TakesTurn};
 
@@ -26,8 +26,8 @@ fn call_in<T: SeqType, S: Screen<T>>(
     item: Item,
     call: Call,
 ) -> Result<Reply, GateRefuse>
-    requires { IsGate value.old }
-    ensures gate { IsGate value.new }
+    requires { IsGateValue value.old }
+    ensures gate { IsGateValue value.new }
     ensures mark { (gate_of value.new).mark ≡ (gate_of value.old).mark }
     ensures ok { IfOk result (λ reply. IsAdmitted (gate_of value.old) (gate_of value.new) worker iter item call reply) }
     ensures err { IfErr result (λ refuse. GateRefusalFits (gate_of value.old) (gate_of value.new) worker iter item call refuse) }

@@ -1,8 +1,8 @@
 ghost use Rattle.std.specs.Prelude.{◌≡◌, ◌<◌, true, false, IfSome, IfNone};
-ghost use Rattle.rooms.specs.RoomsViews.{is_held, entered, left};
+ghost use Rattle.rooms.specs.RoomsViews.{is_room_held, entered, left};
 ghost use Rattle.rooms.specs.HandedOut.{IsHandedOut, IsLost, MayHaveMark};
 ghost use Rattle.rooms.specs.Values.{tells};
-ghost use Rattle.sessions.specs.Places.{gate_of, IsGate};
+ghost use Rattle.sessions.specs.Places.{gate_of, IsGateValue};
 ghost use Rattle.sessions.specs.Visits.{MayLeaveGate, MayLeaveBook};
 ghost use Rattle.rooms.specs.declared.values.Value.TheVariants as values;
 
@@ -18,7 +18,7 @@ pub fn enter_gate<R: Rooms<Value<T, S>>, T: SeqType, S: Screen<T>>(
     room: Room,
 ) -> Option<Gate<T, S>>
     requires in_range { room < (R.view rooms.old).book }
-    requires free { is_held (R.view rooms.old) room ≡ false }
+    requires free { is_room_held (R.view rooms.old) room ≡ false }
     ensures gate { IfSome result (λ gate. IsHandedOut tells (R.view rooms.old) room (values.Object gate)) }
     ensures some { IfSome result (λ gate. R.view rooms.new ≡ entered tells (R.view rooms.old) room (values.Object gate)) }
     ensures none { IfNone result (IsLost (R.view rooms.old) (R.view rooms.new) room) }
@@ -52,8 +52,8 @@ pub fn enter_value<R: Rooms<Value<T, S>>, T: SeqType, S: Screen<T>>(
     room: Room,
 ) -> Option<Value<T, S>>
     requires in_range { room < (R.view rooms.old).book }
-    requires free { is_held (R.view rooms.old) room ≡ false }
-    ensures is_gate { IfSome result IsGate }
+    requires free { is_room_held (R.view rooms.old) room ≡ false }
+    ensures is_gate { IfSome result IsGateValue }
     ensures gate { IfSome result (λ value. IsHandedOut tells (R.view rooms.old) room value) }
     ensures some { IfSome result (λ value. R.view rooms.new ≡ entered tells (R.view rooms.old) room value) }
     ensures none { IfNone result (IsLost (R.view rooms.old) (R.view rooms.new) room) }
@@ -69,9 +69,9 @@ pub fn leave_value<R: Rooms<Value<T, S>>, T: SeqType, S: Screen<T>>(
     room: Room,
     value: Value<T, S>,
 )
-    requires gate { IsGate value }
+    requires gate { IsGateValue value }
     requires in_range { room < (R.view rooms.old).book }
-    requires held { is_held (R.view rooms.old) room ≡ true }
+    requires held { is_room_held (R.view rooms.old) room ≡ true }
     requires mark { MayHaveMark (R.view rooms.old) room (gate_of value).mark }
     ensures view { R.view rooms.new ≡ left tells (R.view rooms.old) room value }
     ensures loan { R.loan rooms.new ≡ R.loan rooms.old }
@@ -88,7 +88,7 @@ fn book_room<R: Rooms<Value<T, S>>, T: SeqType, S: Screen<T>>(rooms: &R) -> Room
 /// The book, unless another caller holds its room.
 #[inline(always)]
 pub fn enter_book<R: Rooms<Value<T, S>>, T: SeqType, S: Screen<T>>(rooms: &mut R) -> Option<Book>
-    requires free { is_held (R.view rooms.old) (R.view rooms.old).book ≡ false }
+    requires free { is_room_held (R.view rooms.old) (R.view rooms.old).book ≡ false }
     ensures book { IfSome result (λ book. IsHandedOut tells (R.view rooms.old) (R.view rooms.old).book (values.Book book)) }
     ensures some { IfSome result (λ book. R.view rooms.new ≡ entered tells (R.view rooms.old) (R.view rooms.old).book (values.Book book)) }
     ensures none { IfNone result (IsLost (R.view rooms.old) (R.view rooms.new) (R.view rooms.old).book) }

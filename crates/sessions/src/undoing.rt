@@ -3,7 +3,7 @@ ghost use Rattle.commit_book.specs.BookViews.{BookView, put_back};
 ghost use Rattle.commit_book.specs.SerialRuns.{operator_of};
 ghost use Rattle.gate_core.specs.Views.{GateView, undo_last};
 ghost use Rattle.rooms.specs.HandedOut.{IsLost};
-ghost use Rattle.rooms.specs.RoomsViews.{is_held};
+ghost use Rattle.rooms.specs.RoomsViews.{is_room_held};
 ghost use Rattle.speculation.specs.Sessions.{last_step, steps_before, has_no_step};
 ghost use Rattle.sessions.specs.Places.{IsFit};
 ghost use Rattle.sessions.specs.SessionViews.{core_of, view_of};
@@ -27,7 +27,7 @@ fn undo_in<R: Rooms<Value<T, S>>, T: SeqType, S: Screen<T>>(
     iter: u64,
 ) -> bool
     requires in_range { room < (R.view rooms.old).book }
-    requires free { is_held (R.view rooms.old) room ≡ false }
+    requires free { is_room_held (R.view rooms.old) room ≡ false }
     ensures visited { result ≡ true → (was : GateView) × WasVisited (R.view rooms.old) (R.view rooms.new) room was (undo_last was worker iter) }
     ensures lost { result ≡ false → IsLost (R.view rooms.old) (R.view rooms.new) room }
     ensures loan { R.loan rooms.new ≡ R.loan rooms.old }
@@ -80,7 +80,7 @@ impl<O: Operator> Session<O> {
 
     // An iteration with no calls is over and its item put back, unless another caller holds the book. Whether it is.
     fn put_back<R: Rooms<Value<T, S>>, T: SeqType, S: Screen<T>>(&mut self, rooms: &mut R) -> bool
-        requires { is_held (R.view rooms.old) (R.view rooms.old).book ≡ false }
+        requires { is_room_held (R.view rooms.old) (R.view rooms.old).book ≡ false }
         ensures visited { result ≡ true → (was : BookView) × BookWasVisited (R.view rooms.old) (R.view rooms.new) was (put_back was self.old.worker self.old.iter) }
         ensures over { result ≡ true → (core_of self.new ≡ record (core_of self.old) { log = []; pushes = [] }) × (self.new.phase ≡ phases.Idle) }
         ensures lost { result ≡ false → IsLost (R.view rooms.old) (R.view rooms.new) (R.view rooms.old).book × (core_of self.new ≡ core_of self.old) × (self.new.phase ≡ self.old.phase) }
@@ -100,7 +100,7 @@ impl<O: Operator> Session<O> {
     /// The calls are to be taken back. Where there are none the item is put back at once, unless another caller holds the
     /// book.
     pub(crate) fn give_up<R: Rooms<Value<T, S>>, T: SeqType, S: Screen<T>>(&mut self, rooms: &mut R)
-        requires { is_held (R.view rooms.old) (R.view rooms.old).book ≡ false }
+        requires { is_room_held (R.view rooms.old) (R.view rooms.old).book ≡ false }
         ensures gave_up { GaveUp (R.view rooms.old) (R.view rooms.new) (core_of self.old) (core_of self.new) self.new.phase }
         ensures loan { R.loan rooms.new ≡ R.loan rooms.old }
     {
@@ -116,7 +116,7 @@ impl<O: Operator> Session<O> {
         rooms: &mut R,
         stop: Stop,
     ) -> Result<Event, Stop>
-        requires { is_held (R.view rooms.old) (R.view rooms.old).book ≡ false }
+        requires { is_room_held (R.view rooms.old) (R.view rooms.old).book ≡ false }
         ensures gave_up { GaveUp (R.view rooms.old) (R.view rooms.new) (record (core_of self.old) { pushes = [] }) (core_of self.new) self.new.phase }
         ensures stop { result ≡ Err stop }
         ensures loan { R.loan rooms.new ≡ R.loan rooms.old }

@@ -25,15 +25,15 @@ cells_state cells = record { kind = kind_number CellsKind; rows = rows_onto map.
 abbrev pub has_cell : Cells → ℤ → Bool
 has_cell cells k = map.contains_key (number_rows_of cells.numbers) k
 
-abbrev pub room_for : Use → Bool → Bool
-room_for Nothing there = true
-room_for (On sort Reads) there = true
-room_for (On sort Adds) there = there
-room_for (On sort Sets) there = there
+abbrev pub room_in_cells : Use → Bool → Bool
+room_in_cells Nothing there = true
+room_in_cells (On sort Reads) there = true
+room_in_cells (On sort Adds) there = there
+room_in_cells (On sort Sets) there = there
 
 -- a call that writes has its row, so it is undone and done again in that row
 abbrev pub has_cells_room : Cells → Made → Bool
-has_cells_room cells made = room_for (cells_use made.call.method) (has_cell cells made.call.a)
+has_cells_room cells made = room_in_cells (cells_use made.call.method) (has_cell cells made.call.a)
 
 abbrev pub holds_cells : Kind → Bool
 holds_cells CellsKind = true
@@ -42,7 +42,7 @@ holds_cells _ = false
 -- What follows is what the object says of every value. It stands here since that takes nothing from this crate's proofs.
 
 pub foreign-has_cells_room : (cells : Cells) (made : Made) → is_method (cells_state cells).kind made.call.method ≡ false → IsTrue (has_cells_room cells made)
-foreign-has_cells_room cells made foreign = subst (λ u. IsTrue (room_for u (has_cell cells made.call.a))) (sym (cells_use-foreign made.call.method foreign)) refl
+foreign-has_cells_room cells made foreign = subst (λ u. IsTrue (room_in_cells u (has_cell cells made.call.a))) (sym (cells_use-foreign made.call.method foreign)) refl
 
 pub cells_state-IsState : (cells : Cells) → IsState (cells_state cells)
 cells_state-IsState cells = HoldNumbers-rows_onto map.empty 0 (number_rows_of cells.numbers) (λ key. subst IsNumberRow (sym (map.get-empty row_cmp key)) tt) (number-fits cells.numbers)

@@ -3,6 +3,8 @@ use Rattle.std.specs.Prelude.{◌≡◌, ℕ, ℤ, pos, Bool, true, false, cond,
 use Rattle.std.proofs.Common.{sym, subst}
 use Rattle.std.specs.Ordering.{int_cmp, int_eq}
 use Rattle.std.specs.FinMap as map
+use Rattle.gx_base.specs.declared.kinds.Kind.TheVariants.{Set}
+use Rattle.gx_base.specs.Kinds.{kind_number}
 use Rattle.gx_base.specs.States.{State, row_cmp, rows_put}
 use Rattle.gx_base.specs.SetKind.{IsMark}
 use Rattle.gx_base.proofs.CallerLemmas.{same_row, row_at-with}
@@ -41,7 +43,7 @@ put-IsMark false row old h k = k
 marked-IsMark : (es : List (ℤ × ℤ)) (key : ℕ × ℤ) → IsMark (map.get (entries_marked es) key)
 marked-IsMark [] key = subst IsMark (sym (map.get-empty row_cmp key)) tt
 marked-IsMark (e ∷ es) key =
-    let s : State = record { kind = 0; rows = entries_marked es } in
+    let s : State = record { kind = kind_number Set; rows = entries_marked es } in
     subst IsMark (sym (row_at-with s (0, e.0) (mark_row e.1) key)) (put-IsMark (same_row key (0, e.0)) (mark_row e.1) _ (row-IsMark (int_eq e.1 (pos 0))) (marked-IsMark es key))
 
 pub set_rows-IsMark : (m : Marks) (key : ℕ × ℤ) → IsMark (map.get (set_rows m) key)

@@ -34,15 +34,15 @@ turn_to present = if present then set_action Add else set_action Remove
 abbrev pub turned_room : Bool → Reply → Bool
 turned_room there reply = if int_eq reply.p (pos 1) then there else true
 
-abbrev pub room_for : SetDeed → Bool → Reply → Bool
-room_for Add there reply = turned_room there reply
-room_for Remove there reply = turned_room there reply
-room_for Contains there reply = true
-room_for Nothing there reply = true
+abbrev pub room_in_set : SetDeed → Bool → Reply → Bool
+room_in_set Add there reply = turned_room there reply
+room_in_set Remove there reply = turned_room there reply
+room_in_set Contains there reply = true
+room_in_set Nothing there reply = true
 
 -- a call that changed a row has it, so it is undone and done again in that row
 abbrev pub has_set_room : SharedSet → Made → Bool
-has_set_room set made = room_for (set_deed made.call.method) (has_mark set made.call.a) made.reply
+has_set_room set made = room_in_set (set_deed made.call.method) (has_mark set made.call.a) made.reply
 
 abbrev pub holds_sets : Kind → Bool
 holds_sets Set = true
@@ -51,7 +51,7 @@ holds_sets _ = false
 -- What follows is what the object says of every value. It stands here since that takes nothing from this crate's proofs.
 
 pub foreign-has_set_room : (set : SharedSet) (made : Made) → is_method (set_state set).kind made.call.method ≡ false → IsTrue (has_set_room set made)
-foreign-has_set_room set made foreign = subst (λ d. IsTrue (room_for d (has_mark set made.call.a) made.reply)) (sym (set_deed-foreign made.call.method foreign)) refl
+foreign-has_set_room set made foreign = subst (λ d. IsTrue (room_in_set d (has_mark set made.call.a) made.reply)) (sym (set_deed-foreign made.call.method foreign)) refl
 
 pub set_state-IsState : (set : SharedSet) → IsState (set_state set)
 set_state-IsState set key = set_rows-IsMark (number_rows_of set.marks) key

@@ -4,6 +4,8 @@ use Rattle.std.specs.Prelude.{◌≡◌, pos, true, false, Some, None, [], refl}
 use Rattle.std.proofs.Common.{inr}
 use Rattle.gx_base.specs.declared.calls.Call.{Call}
 use Rattle.gx_base.specs.declared.calls.Seen.{Seen}
+use Rattle.gx_base.specs.declared.kinds.Kind.TheVariants.{Set}
+use Rattle.gx_base.specs.Kinds.{kind_number}
 use Rattle.gx_base.proofs.CallerLemmas.{IsBelow-itself, set_deed-foreign}
 use Rattle.gx_base.specs.Conditions.{holds}
 use Rattle.gx_base.specs.States.{State}
@@ -66,11 +68,11 @@ set_strengthened Contains Add = refl
 set_strengthened Nothing e = refl
 set_strengthened d e = refl
 
-pub set_facts : TableFacts 0 set_tables
+pub set_facts : TableFacts (kind_number Set) set_tables
 set_facts = record {
-  valid = valid_from 0 set_tables.precise set_table;
-  keeps_to_kind = keeps 0 Nothing set_deed set_deed-foreign precise_set set_none;
+  valid = valid_from (kind_number Set) set_tables.precise set_table;
+  keeps_to_kind = keeps (kind_number Set) Nothing set_deed set_deed-foreign precise_set set_none;
   strengthened = λ first second. set_strengthened (set_deed first) (set_deed second);
   readers_below = λ first second. IsBelow-itself _;
-  readers_keep_to_kind = keeps 0 Nothing set_deed set_deed-foreign simple_set simple_set_none;
+  readers_keep_to_kind = keeps (kind_number Set) Nothing set_deed set_deed-foreign simple_set simple_set_none;
 }

@@ -14,7 +14,7 @@ use Rattle.shared_sets.specs.SetValidity.{set_facts}
 use Rattle.shared_sets.specs.CellsValidity.{cells_facts}
 
 pub set_tables-SuitKind : (kind : Kind) → IsTrue (holds_sets kind) → SuitKind (kind_number kind) set_tables
-set_tables-SuitKind Set held = tables-SuitKind 0 set_tables set_facts
+set_tables-SuitKind Set held = tables-SuitKind (kind_number Set) set_tables set_facts
 set_tables-SuitKind Cells held = absurd (cc)
 set_tables-SuitKind Flow held = absurd (cc)
 set_tables-SuitKind Points held = absurd (cc)
@@ -22,7 +22,7 @@ set_tables-SuitKind Domains held = absurd (cc)
 
 pub cells_tables-SuitKind : (kind : Kind) → IsTrue (holds_cells kind) → SuitKind (kind_number kind) cells_tables
 cells_tables-SuitKind Set held = absurd (cc)
-cells_tables-SuitKind Cells held = tables-SuitKind 1 cells_tables cells_facts
+cells_tables-SuitKind Cells held = tables-SuitKind (kind_number Cells) cells_tables cells_facts
 cells_tables-SuitKind Flow held = absurd (cc)
 cells_tables-SuitKind Points held = absurd (cc)
 cells_tables-SuitKind Domains held = absurd (cc)

@@ -3,10 +3,11 @@ ghost use Rattle.std.specs.Prelude.{◌≡◌};
 ghost use Rattle.gx_base.specs.CellsKind.{cells_use};
 ghost use Rattle.shared_sets.specs.CellsMethods.{use_from};
 
+use gx_base::CELLS_METHODS;
 use kind_tables::register_rows::Deed;
 
 /// Replies the number of a key.
-pub const READ: u32 = 8;
+pub const READ: u32 = CELLS_METHODS;
 
 /// Adds to the number of a key.
 pub const ADD: u32 = READ + 1;

@@ -3,8 +3,10 @@ ghost use Rattle.std.specs.Prelude.{◌≡◌};
 ghost use Rattle.gx_base.specs.SetKind.{set_deed};
 ghost use Rattle.shared_sets.specs.SetMethods.{deed_from};
 
+use gx_base::SET_METHODS;
+
 /// Brings a number in, and replies 1 where it was absent.
-pub const ADD: u32 = 0;
+pub const ADD: u32 = SET_METHODS;
 
 /// Takes a number out, and replies 1 where it was present.
 pub const REMOVE: u32 = ADD + 1;

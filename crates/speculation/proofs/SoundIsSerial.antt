@@ -79,8 +79,8 @@ module _ (op : Operator) where
 
   -- ---- a new machine is sound
 
-  new_gate : (room : ℕ) (g : GateView) → IsNewGate g → SoundGate g.state room [] g
-  new_gate room g h = record {
+  new_gate_sound : (room : ℕ) (g : GateView) → IsNewGate g → SoundGate g.state room [] g
+  new_gate_sound room g h = record {
     lawful = h.lawful;
     begun = ap (λ done. start_of (start_of g.state g.live) done) h.no_done ∙ ap (λ live. start_of g.state live) h.no_live;
     past = ap mades_of h.no_done;
@@ -95,7 +95,7 @@ module _ (op : Operator) where
 
   pub new_is_sound : (claim : Type 0) (m : Machine) → IsNew op m → SoundMachine claim op (object_states m) m.book.ready m
   new_is_sound claim m h = record {
-    gates = λ _ room. subst (λ cs. SoundGate (m.gates room).state room (journal cs) (m.gates room)) (sym h.no_commits) (new_gate room (m.gates room) (h.gates room));
+    gates = λ _ room. subst (λ cs. SoundGate (m.gates room).state room (journal cs) (m.gates room)) (sym h.no_commits) (new_gate_sound room (m.gates room) (h.gates room));
     logs = λ room worker. new_log room worker (m.sessions worker).iter (m.sessions worker).item (m.sessions worker).outcome (m.gates room).live (h.gates room).no_live (h.nothing_done worker);
     sessions = λ worker. subst (λ p. SoundPhase op (m.sessions worker).item (m.sessions worker).outcome p) (sym (h.idle worker)) (ap (λ (x : Outcome). x.steps) (h.nothing_done worker));
     book = record {

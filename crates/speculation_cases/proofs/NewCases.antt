@@ -20,7 +20,7 @@ use Rattle.shared_sets.specs.CellsTables.{cells_tables}
 use Rattle.shared_sets.specs.SuitedTables.{cells_tables-SuitKind}
 use Rattle.preflow_push.specs.Discharge.{discharge_operator}
 use Rattle.speculation.specs.Premises.{IsNewGate, IsNew}
-use Rattle.speculation_cases.specs.Beginnings.{WrittenNumbers, written, HasPreciseRows, new_gate}
+use Rattle.speculation_cases.specs.Beginnings.{WrittenNumbers, written, HasPreciseRows, written_gate}
 use Rattle.speculation_cases.specs.Diamond.{net, first_numbers, diamond}
 use Rattle.speculation_cases.specs.SmallConflict.{setters, two_setters}
 use Rattle.speculation_cases.specs.NamedReader.{setter_and_reader, one_setter}
@@ -38,7 +38,7 @@ kind_is : (kind : Kind) (ws : WrittenNumbers) → (written kind ws).kind ≡ kin
 kind_is kind [] = refl
 kind_is kind (w ∷ ws) = kind_is kind ws
 
-begins : (kind : Kind) (tables : KindTables) (table : RowMap) (ws : WrittenNumbers) → SuitKind (kind_number kind) tables → HasPreciseRows tables table → Holds (kind_number kind) (written kind ws) → IsNewGate (new_gate kind table ws)
+begins : (kind : Kind) (tables : KindTables) (table : RowMap) (ws : WrittenNumbers) → SuitKind (kind_number kind) tables → HasPreciseRows tables table → Holds (kind_number kind) (written kind ws) → IsNewGate (written_gate kind table ws)
 begins kind tables table ws suit h s =
     let rows : row_of table ≡ rows_chosen tables Precise = λ i first second. h first second i in
     record {

@@ -27,8 +27,8 @@ written kind (w ∷ ws) = with_number (written kind ws) w.0 w.1
 abbrev pub HasPreciseRows : KindTables → RowMap → Type 0
 HasPreciseRows tables table = (first second : ℕ) → row_of table first second ≡ rows_chosen tables Precise first second
 
-abbrev pub new_gate : Kind → RowMap → WrittenNumbers → GateView
-new_gate kind table ws = record { kind = kind_number kind; table = table; state = written kind ws; done = []; live = []; mark = 0 }
+abbrev pub written_gate : Kind → RowMap → WrittenNumbers → GateView
+written_gate kind table ws = record { kind = kind_number kind; table = table; state = written kind ws; done = []; live = []; mark = 0 }
 
 abbrev pub at_rest : Session
 at_rest = record { phase = Idle; iter = 0; item = record { k0 = pos 0; k1 = pos 0; k2 = pos 0; k3 = pos 0 }; outcome = nothing_done; next_iter = 0 }

@@ -10,7 +10,7 @@ use Rattle.preflow_push.specs.FlowCalls.{height, relabel, excess, gain, flow, se
 use Rattle.speculation.specs.Events.{Turn}
 use Rattle.speculation.specs.Events as event
 use Rattle.speculation.specs.Machines.{Machine}
-use Rattle.speculation_cases.specs.Beginnings.{WrittenNumbers, new_gate, starting, turn_0, turn_1}
+use Rattle.speculation_cases.specs.Beginnings.{WrittenNumbers, written_gate, starting, turn_0, turn_1}
 
 -- node 1 is the source, node 4 the sink, and two ways of two arcs lead from the one to the other
 abbrev pub arc : ℕ → ℕ → Arc
@@ -28,7 +28,7 @@ first_numbers room = []
 
 -- nodes 2 and 3 have an excess
 abbrev pub diamond : RowMap → Machine
-diamond table = starting (λ room. new_gate Flow table (first_numbers room)) false (node_item (pos 2) ∷ node_item (pos 3) ∷ [])
+diamond table = starting (λ room. written_gate Flow table (first_numbers room)) false (node_item (pos 2) ∷ node_item (pos 3) ∷ [])
 
 -- workers 0 and 1 by turns, so many times
 abbrev pub alternating : ℕ → List ℕ

@@ -45,13 +45,13 @@ IsTableOfRun kind tables choice None table = (first second : ℕ) → row_of tab
 IsTableOfRun kind tables choice (Some bytes) table = IsAccepted kind tables.precise bytes table
 
 -- whatever is wrong with a text, its line is told
-abbrev pub refusal_of : TextFault → TableRefuse
-refusal_of (Syntax line) = Line line
-refusal_of (UnknownMethod line) = Line line
-refusal_of (UnknownName line) = Line line
-refusal_of (Twice line) = Line line
-refusal_of (TooDeep line) = Line line
-refusal_of NoMemoryForText = NoMemory
+abbrev pub table_refusal : TextFault → TableRefuse
+table_refusal (Syntax line) = Line line
+table_refusal (UnknownMethod line) = Line line
+table_refusal (UnknownName line) = Line line
+table_refusal (Twice line) = Line line
+table_refusal (TooDeep line) = Line line
+table_refusal NoMemoryForText = NoMemory
 
 -- this table is given, but for want of memory
 abbrev pub GivesRunTable : RowMap → Result RowMap TableRefuse → Type 0

@@ -20,8 +20,8 @@ use gx_base::{Choice, Kind, SeqType, Table};
 use std::alloc::Global;
 
 /// Whatever is wrong with a text, its line is told.
-fn refusal_of(fault: TextFault) -> TableRefuse
-    ensures { result ≡ tables.refusal_of fault }
+fn table_refusal(fault: TextFault) -> TableRefuse
+    ensures { result ≡ tables.table_refusal fault }
 {
     match fault {
         TextFault::Syntax { line }
@@ -45,7 +45,7 @@ fn read_of_kind(alloc: Global, kind: Kind, bytes: &[u8]) -> Result<Table, TableR
     cond_syntax::laws::read_tables_are_of_wanted_kinds();
     match read_table(alloc, bytes, &[kind]) {
         Ok((_, table)) => Ok(table),
-        Err(fault) => Err(refusal_of(fault)),
+        Err(fault) => Err(table_refusal(fault)),
     }
 }
 

@@ -14,5 +14,5 @@ nameless_by : (kind : ℕ) (rows : Rows) (first second : ℕ) (b : Bool) → (is
 nameless_by kind rows first second true e simple keeps = let p = and_parts _ _ e in simple_nameless Second (rows first second) (simple first second p.0 p.1)
 nameless_by kind rows first second false e simple keeps = ap (names_state Second) (keeps first second e)
 
-pub alone : (kind : ℕ) (rows : Rows) → AreSimple kind rows → KeepsToKind kind rows → SeesFirstAlone rows
-alone kind rows simple keeps first second = nameless_by kind rows first second (is_method kind first && is_method kind second) refl simple keeps
+pub simple_sees_alone : (kind : ℕ) (rows : Rows) → AreSimple kind rows → KeepsToKind kind rows → SeesFirstAlone rows
+simple_sees_alone kind rows simple keeps first second = nameless_by kind rows first second (is_method kind first && is_method kind second) refl simple keeps

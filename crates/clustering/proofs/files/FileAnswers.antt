@@ -9,67 +9,67 @@ use Rattle.gx_base.specs.declared.calls.Spot.{Spot}
 use Rattle.gx_base.specs.declared.inputs.What.TheVariants as what
 use Rattle.gx_base.specs.declared.inputs.InputFault.{InputFault}
 use Rattle.gx_base.specs.declared.inputs.InputFault.TheVariants as faults
-use Rattle.clustering.specs.declared.reading.Seen.{Seen}
-use Rattle.clustering.specs.PointRows.{Row, Place, place_of}
-use Rattle.clustering.specs.PointFiles.{AreRows, IsPointsFile, IsFirstBadRow, IsReadable, IsTooLarge, CallsFor, CallsForOne, answer_of, numbered, most_points}
+use Rattle.clustering.specs.declared.reading.RowsRead.{RowsRead}
+use Rattle.clustering.specs.PointRows.{FileRow, Coordinates, coordinates_in}
+use Rattle.clustering.specs.PointFiles.{AreRows, IsPointsFile, IsFirstBadRow, IsReadable, IsTooLarge, CallsFor, CallsForOne, answer_of, numbered_spots, most_points}
 use Rattle.clustering.specs.PointReading.{HasRead, HasReadAll, StopsReading}
 use Rattle.clustering.proofs.files.TextRows.{rows_from, same_rows}
-use Rattle.clustering.proofs.files.RowRuns.{some_place, length_numbered, as_many}
+use Rattle.clustering.proofs.files.RowRuns.{some_place, length_numbered_spots, as_many}
 
 -- ---- one answer
 
-abbrev Says : Row → Type 0
-Says row = IsSome (place_of row)
+abbrev Says : FileRow → Type 0
+Says row = IsSome (coordinates_in row)
 
-is_none_some : (o : Option Place) → o ≡ None → IsSome o → ⊥
+is_none_some : (o : Option Coordinates) → o ≡ None → IsSome o → ⊥
 is_none_some None e h = cc
 is_none_some (Some p) e h = cc
 
-none_here : (rows : List Row) (places : List Place) (n : ℕ) (row : Row) → map place_of rows ≡ map some_place places → slice_get rows n ≡ Some row → place_of row ≡ None → ⊥
+none_here : (rows : List FileRow) (places : List Coordinates) (n : ℕ) (row : FileRow) → map coordinates_in rows ≡ map some_place places → slice_get rows n ≡ Some row → coordinates_in row ≡ None → ⊥
 none_here [] places n row e at odd = cc
 none_here (r ∷ rows) [] n row e at odd = cc
 none_here (r ∷ rows) (p ∷ places) zero row e at odd =
-    let here : place_of r ≡ Some p = cc in
+    let here : coordinates_in r ≡ Some p = cc in
     let same : r ≡ row = cc in
-    let odd_here : place_of r ≡ None = ap place_of same ∙ odd in
+    let odd_here : coordinates_in r ≡ None = ap coordinates_in same ∙ odd in
     cc
 none_here (r ∷ rows) (p ∷ places) (suc n) row e at odd = none_here rows places n row (cc) at odd
 
-said_before : (rows : List Row) (m n : ℕ) (row : Row) → AllByRecursion Says (take m rows) → n < m → slice_get rows n ≡ Some row → Says row
+said_before : (rows : List FileRow) (m n : ℕ) (row : FileRow) → AllByRecursion Says (take m rows) → n < m → slice_get rows n ≡ Some row → Says row
 said_before [] m n row all lt at = absurd (cc)
 said_before (r ∷ rows) zero n row all lt at = absurd (omega arith)
 said_before (r ∷ rows) (suc m) zero row all lt at = let same : r ≡ row = cc in subst Says same all.0
 said_before (r ∷ rows) (suc m) (suc n) row all lt at = said_before rows m n row all.1 (omega arith) at
 
-same_places : (ps qs : List Place) → map some_place ps ≡ map some_place qs → ps ≡ qs
+same_places : (ps qs : List Coordinates) → map some_place ps ≡ map some_place qs → ps ≡ qs
 same_places [] [] e = refl
 same_places [] (q ∷ qs) e = absurd (cc)
 same_places (p ∷ ps) [] e = absurd (cc)
 same_places (p ∷ ps) (q ∷ qs) e =
     let here : p ≡ q = cc in
     let others : map some_place ps ≡ map some_place qs = cc in
-    ap (λ (x : Place). x ∷ ps) here ∙ ap (λ (l : List Place). q ∷ l) (same_places ps qs others)
+    ap (λ (x : Coordinates). x ∷ ps) here ∙ ap (λ (l : List Coordinates). q ∷ l) (same_places ps qs others)
 
-rows_same : (bytes : List ℕ) (rows others : List Row) → AreRows bytes rows → AreRows bytes others → rows ≡ others
+rows_same : (bytes : List ℕ) (rows others : List FileRow) → AreRows bytes rows → AreRows bytes others → rows ≡ others
 rows_same bytes rows others a b = same_rows st.StartRecord (strip_bom bytes) rows others a b
 
 same_points : (bytes : List ℕ) (spots others : List Spot) → IsPointsFile bytes spots → IsPointsFile bytes others → spots ≡ others
 same_points bytes spots others f g =
     let rows = rows_same bytes f.rows g.rows f.are_rows g.are_rows in
-    let places = same_places f.places g.places (sym f.each ∙ ap (λ (rs : List Row). map place_of rs) rows ∙ g.each) in
-    f.are ∙ ap (numbered 0) places ∙ sym g.are
+    let places = same_places f.places g.places (sym f.each ∙ ap (λ (rs : List FileRow). map coordinates_in rs) rows ∙ g.each) in
+    f.are ∙ ap (numbered_spots 0) places ∙ sym g.are
 
 no_fault : (bytes : List ℕ) (spots : List Spot) (k : ℕ) → IsPointsFile bytes spots → IsFirstBadRow bytes k → ⊥
 no_fault bytes spots k f g =
     let rows = rows_same bytes g.rows f.rows g.are_rows f.are_rows in
-    none_here f.rows f.places (k - 1) g.row f.each (sym (ap (λ (rs : List Row). slice_get rs (k - 1)) rows) ∙ g.at) g.faulty
+    none_here f.rows f.places (k - 1) g.row f.each (sym (ap (λ (rs : List FileRow). slice_get rs (k - 1)) rows) ∙ g.at) g.faulty
 
 no_later : (bytes : List ℕ) (k j : ℕ) → IsFirstBadRow bytes k → IsFirstBadRow bytes j → k < j → ⊥
 no_later bytes k j f g lt =
     let rows = rows_same bytes f.rows g.rows f.are_rows g.are_rows in
     let from_one : 1 ≤ k = f.from_one in
     let sooner : k - 1 < j - 1 = omega arith in
-    is_none_some (place_of f.row) f.faulty (said_before g.rows (j - 1) (k - 1) f.row g.before sooner (sym (ap (λ (rs : List Row). slice_get rs (k - 1)) rows) ∙ f.at))
+    is_none_some (coordinates_in f.row) f.faulty (said_before g.rows (j - 1) (k - 1) f.row g.before sooner (sym (ap (λ (rs : List FileRow). slice_get rs (k - 1)) rows) ∙ f.at))
 
 by_order : {P : Type 0} (k j : ℕ) → (k < j → P) → (k ≡ j → P) → (j < k → P) → P
 by_order zero zero f g h = g refl
@@ -123,44 +123,44 @@ one_answer bytes (Err faults.NoMemory) b f g = absurd f
 -- ---- an answer
 
 -- the first of these rows that says of no point where it stands
-record Odd (rows : List Row) : Type 0 where
+record Odd (rows : List FileRow) : Type 0 where
   n : ℕ
   before : AllByRecursion Says (take n rows)
-  row : Row
+  row : FileRow
   at : slice_get rows n ≡ Some row
-  faulty : place_of row ≡ None
+  faulty : coordinates_in row ≡ None
 
-abbrev AllSaid : List Row → Type 0
-AllSaid rows = (places : List Place) × (map place_of rows ≡ map some_place places)
+abbrev AllSaid : List FileRow → Type 0
+AllSaid rows = (places : List Coordinates) × (map coordinates_in rows ≡ map some_place places)
 
-scan_step : (row : Row) (rows : List Row) (o : Option Place) → place_of row ≡ o → AllSaid rows ⊎ Odd rows → AllSaid (row ∷ rows) ⊎ Odd (row ∷ rows)
+scan_step : (row : FileRow) (rows : List FileRow) (o : Option Coordinates) → coordinates_in row ≡ o → AllSaid rows ⊎ Odd rows → AllSaid (row ∷ rows) ⊎ Odd (row ∷ rows)
 scan_step row rows None e rest = inr (record { n = 0; before = tt; row = row; at = refl; faulty = e })
 scan_step row rows (Some place) e (inl all) =
-    inl (place ∷ all.0, ap (λ (o : Option Place). o ∷ map place_of rows) e ∙ ap (λ (l : List (Option Place)). some_place place ∷ l) all.1)
+    inl (place ∷ all.0, ap (λ (o : Option Coordinates). o ∷ map coordinates_in rows) e ∙ ap (λ (l : List (Option Coordinates)). some_place place ∷ l) all.1)
 scan_step row rows (Some place) e (inr odd) = inr (record { n = suc odd.n; before = (subst IsSome (sym e) refl, odd.before); row = odd.row; at = odd.at; faulty = odd.faulty })
 
-scan : (rows : List Row) → AllSaid rows ⊎ Odd rows
+scan : (rows : List FileRow) → AllSaid rows ⊎ Odd rows
 scan [] = inl ([], refl)
-scan (row ∷ rows) = scan_step row rows (place_of row) refl (scan rows)
+scan (row ∷ rows) = scan_step row rows (coordinates_in row) refl (scan rows)
 
 -- ---- what the reader answered
 
-pub is_readable : (bytes : List ℕ) (seen : Seen) → HasReadAll bytes seen → seen.rows ≤ most_points → IsReadable bytes seen.spots.items
+pub is_readable : (bytes : List ℕ) (seen : RowsRead) → HasReadAll bytes seen → seen.rows ≤ most_points → IsReadable bytes seen.spots.items
 is_readable bytes seen read le =
     let has = read.has_read in
     let kept = has.kept le in
-    let count : length seen.spots.items ≡ seen.rows = ap length kept ∙ length_numbered has.places 0 ∙ sym (as_many read.rows has.places has.each) ∙ sym has.count in
+    let count : length seen.spots.items ≡ seen.rows = ap length kept ∙ length_numbered_spots has.places 0 ∙ sym (as_many read.rows has.places has.each) ∙ sym has.count in
     record {
       is_file = record { rows = read.rows; are_rows = read.are_rows; places = has.places; each = has.each; are = kept };
       within = omega arith;
     }
 
-pub is_too_large : (bytes : List ℕ) (seen : Seen) → HasReadAll bytes seen → most_points < seen.rows → IsTooLarge bytes
+pub is_too_large : (bytes : List ℕ) (seen : RowsRead) → HasReadAll bytes seen → most_points < seen.rows → IsTooLarge bytes
 is_too_large bytes seen read lt =
     let has = read.has_read in
-    let count : length (numbered 0 has.places) ≡ seen.rows = length_numbered has.places 0 ∙ sym (as_many read.rows has.places has.each) ∙ sym has.count in
+    let count : length (numbered_spots 0 has.places) ≡ seen.rows = length_numbered_spots has.places 0 ∙ sym (as_many read.rows has.places has.each) ∙ sym has.count in
     record {
-      spots = numbered 0 has.places;
+      spots = numbered_spots 0 has.places;
       is_file = record { rows = read.rows; are_rows = read.are_rows; places = has.places; each = has.each; are = refl };
       passes = omega arith;
     }
@@ -168,7 +168,7 @@ is_too_large bytes seen read lt =
 pub calls_for_one : (bytes : List ℕ) → CallsForOne bytes
 calls_for_one bytes = by all.0 all.1 (scan all.0)
   where
-    all : (rows : List Row) × AreRows bytes rows
+    all : (rows : List FileRow) × AreRows bytes rows
     all = rows_from (length (strip_bom bytes)) st.StartRecord (strip_bom bytes) refl (omega arith)
 
     one : (answer : Result (List Spot) InputFault) → CallsFor bytes answer → CallsForOne bytes
@@ -178,8 +178,8 @@ calls_for_one bytes = by all.0 all.1 (scan all.0)
     sized spots file true e = one (Ok spots) (record { is_file = file; within = grind (arith) })
     sized spots file false e = one (Err (faults.Large what.Points)) (record { spots = spots; is_file = file; passes = grind (arith) })
 
-    by : (rows : List Row) → AreRows bytes rows → AllSaid rows ⊎ Odd rows → CallsForOne bytes
-    by rows are (inl said) = sized (numbered 0 said.0) (record { rows = rows; are_rows = are; places = said.0; each = said.1; are = refl }) (nat_le (length (numbered 0 said.0)) most_points) refl
+    by : (rows : List FileRow) → AreRows bytes rows → AllSaid rows ⊎ Odd rows → CallsForOne bytes
+    by rows are (inl said) = sized (numbered_spots 0 said.0) (record { rows = rows; are_rows = are; places = said.0; each = said.1; are = refl }) (nat_le (length (numbered_spots 0 said.0)) most_points) refl
     by rows are (inr odd) =
         let back : suc odd.n - 1 ≡ odd.n = omega arith in
         one (Err (faults.Line (suc odd.n))) (record {

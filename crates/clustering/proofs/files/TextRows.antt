@@ -8,7 +8,7 @@ use Rattle.csv.specs.declared.parser.State.TheVariants as st
 use Rattle.csv.specs.declared.parser.Action.{Action}
 use Rattle.csv.specs.declared.parser.Terminator.TheVariants as term
 use Rattle.csv.specs.declared.parser.Action.TheVariants as act
-use Rattle.clustering.specs.PointRows.{Row}
+use Rattle.clustering.specs.PointRows.{FileRow}
 
 -- ---- where a record ends
 
@@ -61,7 +61,7 @@ same_read p q e = cc
 abbrev Ended : List ℕ → Read → Type 0
 Ended rest p = (ends_at_end p.1 ≡ false) × (length p.2 ≤ length rest)
 
-at_end : (b : Bool) (row : Row) (rest : List ℕ) (p : Read) → (if b then Some (row, st.StartRecord, []) else None) ≡ some_read p → Ended rest p
+at_end : (b : Bool) (row : FileRow) (rest : List ℕ) (p : Read) → (if b then Some (row, st.StartRecord, []) else None) ≡ some_read p → Ended rest p
 at_end true row rest p e = subst (Ended rest) (same_read (row, st.StartRecord, []) p e) (refl, omega arith)
 at_end false row rest p e = absurd (cc)
 
@@ -70,7 +70,7 @@ one_byte : (b : Bool) (now : Read) (later : Option Read) (rest : List ℕ) (p : 
 one_byte true now later rest p h k m e = subst (Ended rest) (same_read now p e) (h refl, k)
 one_byte false now later rest p h k m e = m e
 
-next-ended : (s : State) (fields : Row) (field : List ℕ) (c : ℕ) (rest : List ℕ) (p : Read) → next_record default_config s fields field (c ∷ rest) ≡ some_read p → Ended rest p
+next-ended : (s : State) (fields : FileRow) (field : List ℕ) (c : ℕ) (rest : List ℕ) (p : Read) → next_record default_config s fields field (c ∷ rest) ≡ some_read p → Ended rest p
 unfolding next_record
 next-ended s fields field c [] p e =
     one_byte (is_end (step default_config s c).1) _ _ [] p (step-rests s c) (omega arith) (λ f. at_end (ends_at_end (step default_config s c).0) _ [] p f) e
@@ -81,7 +81,7 @@ next-ended s fields field c (d ∷ rest) p e =
     (more.0, omega (arith, more.1)))
     e
 
-none_begun : (b : Bool) (row : Row) (p : Read) → b ≡ false → (if b then Some (row, st.StartRecord, []) else None) ≡ some_read p → ⊥
+none_begun : (b : Bool) (row : FileRow) (p : Read) → b ≡ false → (if b then Some (row, st.StartRecord, []) else None) ≡ some_read p → ⊥
 none_begun true row p h e = cc
 none_begun false row p h e = cc
 
@@ -95,7 +95,7 @@ next-shorter s (c ∷ rest) p h e =
 
 -- ---- many records
 
-pub rests : (s t : State) (xs ys : List ℕ) (rows : List Row) → ends_at_end s ≡ false → Reached default_config s xs rows t ys → (ends_at_end t ≡ false) × (length rows + length ys ≤ length xs)
+pub rests : (s t : State) (xs ys : List ℕ) (rows : List FileRow) → ends_at_end s ≡ false → Reached default_config s xs rows t ys → (ends_at_end t ≡ false) × (length rows + length ys ≤ length xs)
 unfolding Reached
 rests s t xs ys [] h r = (subst (λ (u : State). ends_at_end u ≡ false) r.0 h, omega (arith, ap length r.1))
 rests s t xs ys (row ∷ rows) h r =
@@ -106,7 +106,7 @@ rests s t xs ys (row ∷ rows) h r =
 
 -- the rows that follow from where no field is begun
 abbrev Rest : State → List ℕ → Type 0
-Rest s xs = (rows : List Row) × AreRecords default_config s xs rows
+Rest s xs = (rows : List FileRow) × AreRecords default_config s xs rows
 
 rest_by : (n : ℕ) (s : State) (xs : List ℕ) → ends_at_end s ≡ false → length xs ≤ suc n → ((t : State) (ys : List ℕ) → ends_at_end t ≡ false → length ys ≤ n → Rest t ys) → (o : Option Read) → next_record default_config s [] [] xs ≡ o → Rest s xs
 unfolding Reached
@@ -121,11 +121,11 @@ unfolding Reached
 no_rest s xs h le None e = ([], (s, xs, (refl, refl), e))
 no_rest s xs h le (Some p) e = absurd (let shorter = next-shorter s xs p h e in omega (arith, shorter.1))
 
-pub rows_from : (n : ℕ) (s : State) (xs : List ℕ) → ends_at_end s ≡ false → length xs ≤ n → (rows : List Row) × AreRecords default_config s xs rows
+pub rows_from : (n : ℕ) (s : State) (xs : List ℕ) → ends_at_end s ≡ false → length xs ≤ n → (rows : List FileRow) × AreRecords default_config s xs rows
 rows_from zero s xs h le = no_rest s xs h le (next_record default_config s [] [] xs) refl
 rows_from (suc n) s xs h le = rest_by n s xs h le (rows_from n) (next_record default_config s [] [] xs) refl
 
-pub rows_after : (s t : State) (xs ys : List ℕ) (rows more : List Row) → Reached default_config s xs rows t ys → AreRecords default_config t ys more → AreRecords default_config s xs (rows ++ more)
+pub rows_after : (s t : State) (xs ys : List ℕ) (rows more : List FileRow) → Reached default_config s xs rows t ys → AreRecords default_config t ys more → AreRecords default_config s xs (rows ++ more)
 unfolding Reached
 rows_after s t xs ys [] more r are =
     subst (λ (zs : List ℕ). AreRecords default_config s zs more) (sym r.1) (subst (λ (u : State). AreRecords default_config u ys more) (sym r.0) are)
@@ -135,7 +135,7 @@ rows_after s t xs ys (row ∷ rows) more r are =
     (rest.0, rest.1, (p, r.1, r.2, rest.2), rest.3)
 
 -- a text has one list of rows
-pub same_rows : (s : State) (xs : List ℕ) (rows others : List Row) → AreRecords default_config s xs rows → AreRecords default_config s xs others → rows ≡ others
+pub same_rows : (s : State) (xs : List ℕ) (rows others : List FileRow) → AreRecords default_config s xs rows → AreRecords default_config s xs others → rows ≡ others
 unfolding Reached
 same_rows s xs [] [] a b = refl
 same_rows s xs [] (q ∷ qs) a b =
@@ -152,7 +152,7 @@ same_rows s xs (r ∷ rs) (q ∷ qs) a b =
     let other : AreRecords default_config p.0.1 p.0.2 qs = subst (λ (t : Read). AreRecords default_config t.1 t.2 qs) (sym same) (b.0, b.1, o.3, b.3) in
     let tails : rs ≡ qs = same_rows p.0.1 p.0.2 rs qs rest other in
     let heads : r ≡ q = p.2 ∙ ap (λ (t : Read). t.0) same ∙ sym o.2 in
-    ap (λ (x : Row). x ∷ rs) heads ∙ ap (λ (l : List Row). q ∷ l) tails
+    ap (λ (x : FileRow). x ∷ rs) heads ∙ ap (λ (l : List FileRow). q ∷ l) tails
 
 -- ---- without a byte order mark
 

@@ -26,7 +26,7 @@ simple_plain False s e = absurd (cc)
 simple_plain _ s e = s
 
 -- an inequality that stands in a true conjunction is true
-stands_true : (x y : Term) (c : Condition) (first second : Made) (seen : Seen) → stands_in x y c ≡ true → holds c first second seen ≡ true
+pub stands_true : (x y : Term) (c : Condition) (first second : Made) (seen : Seen) → stands_in x y c ≡ true → holds c first second seen ≡ true
     → int_eq (term_value x first second seen) (term_value y first second seen) ≡ false
 stands_true x y (Ne u v) first second seen h t = equation-same x y u v first second seen h ∙ not-true _ t
 stands_true x y (And a b) first second seen h t =

@@ -5,7 +5,7 @@ use Rattle.cond_syntax.specs.Tokens.{Token, Word, Number, NotKey, TrueKey, Beyon
 use Rattle.cond_syntax.specs.WrittenConditions.{WrittenTerm, Far, WrittenCondition, True, Compare, And, Or, Not, IsEqual, Fixed}
 use Rattle.cond_syntax.specs.Grammar as grammar
 use Rattle.cond_syntax.specs.Grammar.{IsTerm, IsCondition, IsConjunction, IsUnit}
-use Rattle.cond_syntax.proofs.machine.Machine.{Frame, OrLeft, AndLeft, Negation, Group, Due, First, Second, State, Operand, OperatorDue, TermDue, OpenDue, FirstDue, FirstDone, SecondDue, SecondDone, ThirdDue, ThirdDone, Done}
+use Rattle.cond_syntax.proofs.machine.Machine.{Frame, OrLeft, AndLeft, Negation, Group, Due, First, Second, ReadingState, Operand, OperatorDue, TermDue, OpenDue, FirstDue, FirstDone, SecondDue, SecondDone, ThirdDue, ThirdDone, Done}
 use Rattle.cond_syntax.proofs.machine.GrammarToMachine.{MayConjoin, MayBegin}
 use Rattle.cond_syntax.proofs.machine.MachineToGrammar.{Waits, AwaitsTerm, Holds}
 
@@ -21,7 +21,7 @@ after_term First frames = Equal ∷ Number (pos 0) ∷ closings frames
 after_term (Second x op) frames = closings frames
 
 -- tokens with which reading can go on to a whole condition
-abbrev pub rest_of : State → List Token
+abbrev pub rest_of : ReadingState → List Token
 rest_of (Operand frames) = TrueKey ∷ closings frames
 rest_of (OperatorDue x frames) = Equal ∷ Number (pos 0) ∷ closings frames
 rest_of (TermDue x op frames) = Number (pos 0) ∷ closings frames
@@ -76,7 +76,7 @@ beyond_goes_on : (all : List Token) (x y z : List ℕ) (due : Due) (frames : Lis
 beyond_goes_on all x y z First frames waits = operator_goes_on all _ (Far x y z) frames waits grammar.beyond
 beyond_goes_on all x y z (Second left op) frames waits = unit_goes_on all waits.0 (Compare op left (Far x y z)) frames waits.1 (waits.2 (Far x y z) (closings frames) grammar.beyond)
 
-pub goes_on : (all : List Token) (state : State) → Holds all state (rest_of state) → SpellsSome all
+pub goes_on : (all : List Token) (state : ReadingState) → Holds all state (rest_of state) → SpellsSome all
 goes_on all (Operand frames) holds = unit_goes_on all (TrueKey ∷ closings frames) True frames holds grammar.true
 goes_on all (OperatorDue x frames) holds = operator_goes_on all holds.0 x frames holds.1 holds.2
 goes_on all (TermDue x op frames) holds = unit_goes_on all holds.0 (Compare op x (Fixed (pos 0))) frames holds.1 (holds.2 (Fixed (pos 0)) (closings frames) grammar.number)

@@ -6,7 +6,7 @@ use Rattle.cond_syntax.specs.Tokens.{Token, OrKey}
 use Rattle.cond_syntax.specs.WrittenConditions.{WrittenTerm, Comparison, WrittenCondition, Compare, Or}
 use Rattle.cond_syntax.specs.Grammar as grammar
 use Rattle.cond_syntax.specs.Grammar.{IsTerm, IsOperator, IsCondition, IsConjunction, IsUnit}
-use Rattle.cond_syntax.proofs.machine.Machine.{Frame, OrLeft, AndLeft, Negation, Group, State, Operand, OperatorDue, TermDue, Done, unit_done, or_read, group_closed, close_read, step, whole, run}
+use Rattle.cond_syntax.proofs.machine.Machine.{Frame, OrLeft, AndLeft, Negation, Group, ReadingState, Operand, OperatorDue, TermDue, Done, unit_done, or_read, group_closed, close_read, step, whole, run}
 
 -- a conjunction may begin here: no `not` and no `and` waits for it
 abbrev pub MayConjoin : List Frame → Type 0
@@ -125,7 +125,7 @@ mutual
   condition_reads (grammar.or {c} h k) frames may = or_reads frames may (condition_reads h frames may) (conjunction_reads_to k (OrLeft c ∷ frames) tt)
 
 -- what is read as a whole condition from the start
-pub spelled_runs : {ts : List Token} {c : WrittenCondition} → IsCondition ts [] c → (s : State) × (run (Some (Operand [])) ts ≡ Some s) × (whole s ≡ Some c)
+pub spelled_runs : {ts : List Token} {c : WrittenCondition} → IsCondition ts [] c → (s : ReadingState) × (run (Some (Operand [])) ts ≡ Some s) × (whole s ≡ Some c)
 spelled_runs h = let all = condition_reads h [] tt in (Done all.last all.waiting, all.read, all.ends)
 
 -- ---- reading in two parts
@@ -134,7 +134,7 @@ pub run_none : (ts : List Token) → run None ts ≡ None
 run_none [] = refl
 run_none (t ∷ ts) = refl
 
-pub run_append : (state : Option State) (ts more : List Token) → run state (ts ++ more) ≡ run (run state ts) more
+pub run_append : (state : Option ReadingState) (ts more : List Token) → run state (ts ++ more) ≡ run (run state ts) more
 run_append state [] more = refl
 run_append None (t ∷ ts) more = sym (run_none more)
 run_append (Some state) (t ∷ ts) more = run_append (step state t) ts more

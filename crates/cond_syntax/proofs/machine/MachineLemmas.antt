@@ -5,7 +5,7 @@ use Rattle.cond_syntax.specs.Tokens.{Token}
 use Rattle.cond_syntax.specs.WrittenConditions.{WrittenCondition}
 use Rattle.cond_syntax.specs.Grammar.{IsCondition}
 use Rattle.cond_syntax.specs.Fronts.{front_of, is_cut, IsOfForm}
-use Rattle.cond_syntax.proofs.machine.Machine.{State, Operand, Wrong, Cut, Whole, whole, whole_or_wrong, run, ended, reading_of}
+use Rattle.cond_syntax.proofs.machine.Machine.{ReadingState, Operand, Wrong, Cut, Whole, whole, whole_or_wrong, run, ended, reading_of}
 use Rattle.cond_syntax.proofs.machine.GrammarToMachine.{spelled_runs, run_none, run_append}
 use Rattle.cond_syntax.proofs.machine.MachineToGrammar.{Holds, HoldsIfAny, IsSpelledIfAny, run_holds, whole_holds}
 use Rattle.cond_syntax.proofs.machine.Continuations.{SpellsSome, rest_of, goes_on}
@@ -21,17 +21,17 @@ never_cut : (read : Option WrittenCondition) → whole_or_wrong read ≡ Cut →
 never_cut None is = cc
 never_cut (Some d) is = cc
 
-whole_ended : (cut : Bool) (o : Option State) (c : WrittenCondition) → ended cut o ≡ Whole c → (s : State) × (o ≡ Some s) × (whole s ≡ Some c) × (cut ≡ false)
+whole_ended : (cut : Bool) (o : Option ReadingState) (c : WrittenCondition) → ended cut o ≡ Whole c → (s : ReadingState) × (o ≡ Some s) × (whole s ≡ Some c) × (cut ≡ false)
 whole_ended cut None c is = absurd (cc)
 whole_ended true (Some s) c is = absurd (cc)
 whole_ended false (Some s) c is = (s, refl, whole_given (whole s) c is, refl)
 
-cut_ended : (cut : Bool) (o : Option State) → ended cut o ≡ Cut → (s : State) × (o ≡ Some s) × (cut ≡ true)
+cut_ended : (cut : Bool) (o : Option ReadingState) → ended cut o ≡ Cut → (s : ReadingState) × (o ≡ Some s) × (cut ≡ true)
 cut_ended cut None is = absurd (cc)
 cut_ended true (Some s) is = (s, refl, refl)
 cut_ended false (Some s) is = absurd (never_cut (whole s) is)
 
-wrong_ended : (cut : Bool) (o : Option State) (more : List Token) (s : State) (c : WrittenCondition) → (cut ≡ false → more ≡ []) → run o more ≡ Some s → whole s ≡ Some c
+wrong_ended : (cut : Bool) (o : Option ReadingState) (more : List Token) (s : ReadingState) (c : WrittenCondition) → (cut ≡ false → more ≡ []) → run o more ≡ Some s → whole s ≡ Some c
     → ended cut o ≡ Wrong → ⊥
 wrong_ended cut None more s c none ran is wrong = let nothing : None ≡ Some s = sym (run_none more) ∙ ran in cc
 wrong_ended true (Some t) more s c none ran is wrong = cc
@@ -43,11 +43,11 @@ wrong_ended false (Some t) more s c none ran is wrong =
 
 -- ---- what the tokens are that led there
 
-read_so_far : (ts more : List Token) (s : State) → run (Some (Operand [])) ts ≡ Some s → Holds (ts ++ more) s more
-read_so_far ts more s ran = let Kept : Option State → Type 0 = λ o. HoldsIfAny (ts ++ more) o more in
+read_so_far : (ts more : List Token) (s : ReadingState) → run (Some (Operand [])) ts ≡ Some s → Holds (ts ++ more) s more
+read_so_far ts more s ran = let Kept : Option ReadingState → Type 0 = λ o. HoldsIfAny (ts ++ more) o more in
     subst Kept ran (run_holds (ts ++ more) ts more (Some (Operand [])) refl)
 
-read_whole : (ts : List Token) (s : State) (c : WrittenCondition) → run (Some (Operand [])) ts ≡ Some s → whole s ≡ Some c → IsCondition (ts ++ []) [] c
+read_whole : (ts : List Token) (s : ReadingState) (c : WrittenCondition) → run (Some (Operand [])) ts ≡ Some s → whole s ≡ Some c → IsCondition (ts ++ []) [] c
 read_whole ts s c ran is = let Spelled : Option WrittenCondition → Type 0 = λ o. IsSpelledIfAny (ts ++ []) o in
     subst Spelled is (whole_holds (ts ++ []) s (read_so_far ts [] s ran))
 

@@ -5,7 +5,7 @@ use Rattle.cond_syntax.specs.Tokens.{Token, Word, Number, OrKey, AndKey, NotKey,
 use Rattle.cond_syntax.specs.WrittenConditions.{WrittenTerm, Fixed, Named, Far, Comparison, WrittenCondition, True, False, Compare, Or, Not}
 use Rattle.cond_syntax.specs.Grammar as grammar
 use Rattle.cond_syntax.specs.Grammar.{IsTerm, IsOperator, IsCondition, IsConjunction, IsUnit}
-use Rattle.cond_syntax.proofs.machine.Machine.{Frame, OrLeft, AndLeft, Negation, Group, Due, First, Second, State, Operand, OperatorDue, TermDue, OpenDue, FirstDue, FirstDone, SecondDue, SecondDone, ThirdDue, ThirdDone, Done, unit_done, term_done, or_read, group_closed, close_read, operator_read, operand_read, term_read, conjunction_read, open_read, word_read, comma_read, close_due, step, whole, run}
+use Rattle.cond_syntax.proofs.machine.Machine.{Frame, OrLeft, AndLeft, Negation, Group, Due, First, Second, ReadingState, Operand, OperatorDue, TermDue, OpenDue, FirstDue, FirstDone, SecondDue, SecondDone, ThirdDue, ThirdDone, Done, unit_done, term_done, or_read, group_closed, close_read, operator_read, operand_read, term_read, conjunction_read, open_read, word_read, comma_read, close_due, step, whole, run}
 use Rattle.cond_syntax.proofs.machine.GrammarToMachine.{MayConjoin, MayBegin}
 
 -- Of all the tokens, those in front of `rest` are what the frames say: the first of the frames stands just in front of
@@ -28,7 +28,7 @@ AwaitsTerm all First frames rest = Waits all frames rest
 AwaitsTerm all (Second x op) frames rest = Compares all x op frames rest
 
 -- of all the tokens, those in front of `rest` are what the state says
-abbrev pub Holds : List Token → State → List Token → Type 0
+abbrev pub Holds : List Token → ReadingState → List Token → Type 0
 Holds all (Operand frames) rest = Waits all frames rest
 Holds all (OperatorDue x frames) rest = (from : List Token) × Waits all frames from × IsTerm from rest x
 Holds all (TermDue x op frames) rest = Compares all x op frames rest
@@ -41,7 +41,7 @@ Holds all (ThirdDue x y due frames) rest = AwaitsTerm all due frames (BeyondKey 
 Holds all (ThirdDone x y z due frames) rest = AwaitsTerm all due frames (BeyondKey ∷ Open ∷ Word x ∷ Comma ∷ Word y ∷ Comma ∷ Word z ∷ rest)
 Holds all (Done c frames) rest = (from : List Token) × Waits all frames from × IsConjunction from rest c × MayConjoin frames
 
-abbrev pub HoldsIfAny : List Token → Option State → List Token → Type 0
+abbrev pub HoldsIfAny : List Token → Option ReadingState → List Token → Type 0
 HoldsIfAny all None rest = Unit {0}
 HoldsIfAny all (Some state) rest = Holds all state rest
 
@@ -120,16 +120,16 @@ open_holds : (all rest : List Token) (due : Due) (frames : List Frame) (t : Toke
 open_holds all rest due frames Open holds = holds
 open_holds all rest due frames _ holds = tt
 
-word_holds : (all rest : List Token) (next : List ℕ → State) (t : Token) → ((word : List ℕ) → t ≡ Word word → Holds all (next word) rest)
+word_holds : (all rest : List Token) (next : List ℕ → ReadingState) (t : Token) → ((word : List ℕ) → t ≡ Word word → Holds all (next word) rest)
     → HoldsIfAny all (word_read next t) rest
 word_holds all rest next (Word word) holds = holds word refl
 word_holds all rest next _ holds = tt
 
-comma_holds : (all rest : List Token) (next : State) (t : Token) → (t ≡ Comma → Holds all next rest) → HoldsIfAny all (comma_read next t) rest
+comma_holds : (all rest : List Token) (next : ReadingState) (t : Token) → (t ≡ Comma → Holds all next rest) → HoldsIfAny all (comma_read next t) rest
 comma_holds all rest next Comma holds = holds refl
 comma_holds all rest next _ holds = tt
 
-closing_holds : (all rest : List Token) (next : State) (t : Token) → (t ≡ Close → Holds all next rest) → HoldsIfAny all (close_due next t) rest
+closing_holds : (all rest : List Token) (next : ReadingState) (t : Token) → (t ≡ Close → Holds all next rest) → HoldsIfAny all (close_due next t) rest
 closing_holds all rest next Close holds = holds refl
 closing_holds all rest next _ holds = tt
 
@@ -138,7 +138,7 @@ at_token : (all : List Token) (due : Due) (frames : List Frame) (place : Token �
     → AwaitsTerm all due frames (place u)
 at_token all due frames place t u same = let Place : Token → Type 0 = λ v. AwaitsTerm all due frames (place v) in subst Place same
 
-step_holds : (all rest : List Token) (state : State) (t : Token) → Holds all state (t ∷ rest) → HoldsIfAny all (step state t) rest
+step_holds : (all rest : List Token) (state : ReadingState) (t : Token) → Holds all state (t ∷ rest) → HoldsIfAny all (step state t) rest
 step_holds all rest (Operand frames) t holds = operand_holds all rest frames t holds
 step_holds all rest (OperatorDue x frames) t holds = operator_holds all rest x frames t holds
 step_holds all rest (TermDue x op frames) t holds = term_read_holds all rest x op frames t holds
@@ -159,7 +159,7 @@ step_holds all rest (ThirdDone x y z due frames) t holds =
     (at_token all due frames (λ u. BeyondKey ∷ Open ∷ Word x ∷ Comma ∷ Word y ∷ Comma ∷ Word z ∷ u ∷ rest) t Close same holds) grammar.beyond)
 step_holds all rest (Done c frames) t holds = conjunction_holds all rest c frames t holds
 
-pub run_holds : (all ts more : List Token) (state : Option State) → HoldsIfAny all state (ts ++ more) → HoldsIfAny all (run state ts) more
+pub run_holds : (all ts more : List Token) (state : Option ReadingState) → HoldsIfAny all state (ts ++ more) → HoldsIfAny all (run state ts) more
 run_holds all [] more state holds = holds
 run_holds all (t ∷ ts) more None holds = tt
 run_holds all (t ∷ ts) more (Some state) holds = run_holds all ts more (step state t) (step_holds all (ts ++ more) state t holds)
@@ -173,7 +173,7 @@ IsSpelledIfAny all (Some c) = IsCondition all [] c
 from_start : (all from : List Token) (c : WrittenCondition) → all ≡ from → IsCondition from [] c → IsCondition all [] c
 from_start all from c same = let Spelled : List Token → Type 0 = λ ts. IsCondition ts [] c in subst Spelled (sym same)
 
-pub whole_holds : (all : List Token) (state : State) → Holds all state [] → IsSpelledIfAny all (whole state)
+pub whole_holds : (all : List Token) (state : ReadingState) → Holds all state [] → IsSpelledIfAny all (whole state)
 whole_holds all (Done c []) holds = from_start all holds.0 c holds.1 (grammar.conjunction holds.2)
 whole_holds all (Done c (OrLeft left ∷ [])) holds = let left_side = holds.1 in from_start all left_side.0 (Or left c) left_side.1 (grammar.or left_side.2 holds.2)
 whole_holds all _ holds = tt

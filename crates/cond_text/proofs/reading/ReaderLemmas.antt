@@ -1,7 +1,7 @@
 -- What tokens lead to, and the levels of open parentheses.
 use Rattle.std.proofs.Common.{◌≡◌, ℕ, List, [], ◌∷◌, ◌++◌, Option, Some, None, Result, Ok, Err, reverse, refl, ap, sym, ◌∙◌}
 use Rattle.std.proofs.lemmas.List.{reverse-append, reverse-reverse}
-use Rattle.cond_text.specs.Machine.{State, Frame, operand_read, conjunction_read, First, Operand, whole, whole_or_wrong}
+use Rattle.cond_text.specs.Machine.{ReadingState, Frame, operand_read, conjunction_read, First, Operand, whole, whole_or_wrong}
 use Rattle.cond_text.specs.Machine as machine
 use Rattle.cond_syntax.specs.WrittenConditions.{WrittenCondition}
 use Rattle.cond_text.specs.CodeTokens.{token_seen}
@@ -16,8 +16,8 @@ use Rattle.cond_text.specs.declared.sources.Source.{Source}
 use Rattle.cond_text.specs.declared.sources.Stop.{Stop}
 use Rattle.cond_text.specs.declared.sources.Stop.TheVariants.{Wrong, Cut, NoMemory}
 use Rattle.cond_text.specs.declared.levels.Conjunction.{Conjunction}
-use Rattle.cond_text.specs.declared.readers.Place.{Place}
-use Rattle.cond_text.specs.declared.readers.Place.TheVariants.{Due, Done}
+use Rattle.cond_text.specs.declared.readers.Innermost.{Innermost}
+use Rattle.cond_text.specs.declared.readers.Innermost.TheVariants.{Due, Done}
 use Rattle.cond_text.specs.declared.readers.Reader.{Reader}
 use Rattle.cond_text.specs.declared.levels.Level.{Level}
 use Rattle.cond_text.specs.declared.tokens.TextToken.{TextToken}
@@ -57,10 +57,10 @@ AreOutside-some kind levels base some outer = outside_some kind (reverse levels)
 
 -- ---- what has been read inside of the innermost one
 
-pub place_due : (kind : ℕ) (base : Option (List Frame)) (place : Place) (state : State) (level : Level) → IsReaderPlace kind base place state → place ≡ Due level → LeadsLevel kind base state level
+pub place_due : (kind : ℕ) (base : Option (List Frame)) (place : Innermost) (state : ReadingState) (level : Level) → IsReaderPlace kind base place state → place ≡ Due level → LeadsLevel kind base state level
 place_due kind base place state level is due = rw due at is
 
-pub place_done : (kind : ℕ) (base : Option (List Frame)) (place : Place) (state : State) (conjunction : Conjunction) → IsReaderPlace kind base place state → place ≡ Done conjunction → LeadsConjunction kind base state conjunction
+pub place_done : (kind : ℕ) (base : Option (List Frame)) (place : Innermost) (state : ReadingState) (conjunction : Conjunction) → IsReaderPlace kind base place state → place ≡ Done conjunction → LeadsConjunction kind base state conjunction
 place_done kind base place state conjunction is done = rw done at is
 
 pub whole-some : (or_left : Option WrittenCondition) (frames : List Frame) (last : WrittenCondition) → whole (machine.Done last (or_frames or_left (outside (Some frames)))) ≡ None
@@ -72,14 +72,14 @@ whole-none (Some left) last = refl
 whole-none None last = refl
 
 -- where a parenthesis is open, nothing whole has been read
-pub ended_open : (kind : ℕ) (reader : Reader) (conjunction : Conjunction) (state : State) → HasReached kind reader state → reader.place ≡ Done conjunction → (reader.outer.items ≡ [] → ⊥) → whole state ≡ None
+pub ended_open : (kind : ℕ) (reader : Reader) (conjunction : Conjunction) (state : ReadingState) → HasReached kind reader state → reader.place ≡ Done conjunction → (reader.outer.items ≡ [] → ⊥) → whole state ≡ None
 ended_open kind reader conjunction state read is some =
     let done = place_done kind read.base reader.place state conjunction read.place is in
     let open_at = AreOutside-some kind reader.outer.items read.base some read.outer in
     ap whole (done.3 ∙ ap (machine.Done done.0) (done.2.is ∙ ap (λ b. or_frames done.2.or_left (outside b)) open_at.1)) ∙ whole-some done.2.or_left open_at.0 done.0
 
 -- where none is, the conjunction ends the whole
-pub ended_closed : (kind : ℕ) (reader : Reader) (conjunction : Conjunction) (state : State) (draft : Draft) → HasReached kind reader state → reader.place ≡ Done conjunction → reader.outer.items ≡ []
+pub ended_closed : (kind : ℕ) (reader : Reader) (conjunction : Conjunction) (state : ReadingState) (draft : Draft) → HasReached kind reader state → reader.place ≡ Done conjunction → reader.outer.items ≡ []
     → ((base : Option (List Frame)) (last : WrittenCondition) (frames : List Frame) → IsDraftConjunction kind conjunction base last frames → IsWhole kind base last frames draft) → IsEnded kind (whole state) (Ok draft)
 ended_closed kind reader conjunction state draft read is closed ends =
     let done = place_done kind read.base reader.place state conjunction read.place is in
@@ -87,15 +87,15 @@ ended_closed kind reader conjunction state draft read is closed ends =
     let all = ends read.base done.0 done.1 done.2 in
     (either_of all.0 done.0, all.1, ap whole (done.3 ∙ ap (machine.Done done.0) (all.2 ∙ ap (λ b. or_frames all.0 (outside b)) none)) ∙ whole-none all.0 done.0)
 
-pub taken_some : (kind : ℕ) (state : Option State) (taken : Option Reader) (reader : Reader) → IsTaken kind state taken → taken ≡ Some reader → (next : State) × HasReached kind reader next × (state ≡ Some next)
+pub taken_some : (kind : ℕ) (state : Option ReadingState) (taken : Option Reader) (reader : Reader) → IsTaken kind state taken → taken ≡ Some reader → (next : ReadingState) × HasReached kind reader next × (state ≡ Some next)
 taken_some kind state taken reader is some = rw some at is
 
-pub taken_none : (kind : ℕ) (state : Option State) (taken : Option Reader) → IsTaken kind state taken → taken ≡ None → state ≡ None
+pub taken_none : (kind : ℕ) (state : Option ReadingState) (taken : Option Reader) → IsTaken kind state taken → taken ≡ None → state ≡ None
 taken_none kind state taken is none = rw none at is
 
 -- ---- the end of reading
 
-pub stops_whole : (old now new : Source) (state : Option State) (stop : Stop) → reading (Some (Operand [])) old ≡ reading state now → Stops now state stop → IsStoppedAt new stop → IsReadWhole old new (Err stop)
+pub stops_whole : (old now new : Source) (state : Option ReadingState) (stop : Stop) → reading (Some (Operand [])) old ≡ reading state now → Stops now state stop → IsStoppedAt new stop → IsReadWhole old new (Err stop)
 stops_whole old now new state Wrong same stops at = same ∙ stops
 stops_whole old now new state Cut same stops at = (same ∙ stops, at)
 stops_whole old now new state NoMemory same stops at = tt

@@ -4,7 +4,7 @@ use Rattle.gx_base.specs.Kinds.{kind_number}
 use Rattle.cond_syntax.specs.Tokens as plain
 use Rattle.cond_syntax.specs.Tokens.{tokens_in}
 use Rattle.cond_text.specs.Machine as machine
-use Rattle.cond_text.specs.Machine.{State, run, step, ended, whole, whole_or_wrong}
+use Rattle.cond_text.specs.Machine.{ReadingState, run, step, ended, whole, whole_or_wrong}
 use Rattle.cond_syntax.specs.Fronts.{is_cut_from, all_known}
 use Rattle.cond_text.specs.TokenSteps.{opened_after, inside_after, knows}
 use Rattle.cond_text.specs.Sources.{reading, words_known, tokens_ahead, IsLater, Stops, StopsToken}
@@ -21,7 +21,7 @@ pub record IsAfter (old : Source) (t : plain.Token) (new : Source) : Type 0 wher
   pub inside : new.inside ≡ inside_after old.inside t
   pub all_known : new.all_known ≡ knows (kind_number old.kind) old.inside t && old.all_known
 
-pub reading-after : (old new : Source) (t : plain.Token) → IsAfter old t new → (state : State) → reading (Some state) old ≡ reading (step state t) new
+pub reading-after : (old new : Source) (t : plain.Token) → IsAfter old t new → (state : ReadingState) → reading (Some state) old ≡ reading (step state t) new
 unfolding reading
 reading-after old new t after state =
     let front : tokens_ahead old ≡ t ∷ tokens_ahead new = rw after.token (front_from-next old.opened new.opened t (tokens_in new.rest.now) after.opened) in
@@ -54,14 +54,14 @@ words_known-end source ahead = rw ahead (and-true source.all_known)
 pub tokens_ahead-end : (source : Source) → tokens_in source.rest.now ≡ [] → tokens_ahead source ≡ []
 tokens_ahead-end source is = rw is
 
-pub reading-end : (source : Source) → tokens_in source.rest.now ≡ [] → (state : State) → reading (Some state) source ≡ whole_or_wrong (whole state)
+pub reading-end : (source : Source) → tokens_in source.rest.now ≡ [] → (state : ReadingState) → reading (Some state) source ≡ whole_or_wrong (whole state)
 unfolding reading
 reading-end source is state = rw is
 
 pub tokens_ahead-cut : (source : Source) (t : plain.Token) (ts : List plain.Token) → tokens_in source.rest.now ≡ t ∷ ts → opened_after source.opened t ≡ None → tokens_ahead source ≡ []
 tokens_ahead-cut source t ts is cut = rw is (front_from-cut source.opened t ts cut)
 
-pub reading-cut : (source : Source) (t : plain.Token) (ts : List plain.Token) → tokens_in source.rest.now ≡ t ∷ ts → opened_after source.opened t ≡ None → (state : State) → reading (Some state) source ≡ machine.Cut
+pub reading-cut : (source : Source) (t : plain.Token) (ts : List plain.Token) → tokens_in source.rest.now ≡ t ∷ ts → opened_after source.opened t ≡ None → (state : ReadingState) → reading (Some state) source ≡ machine.Cut
 unfolding reading
 reading-cut source t ts is cut state = rw (is, front_from-cut source.opened t ts cut, is_cut_from-cut source.opened t ts cut)
 
@@ -76,17 +76,17 @@ reading-none source = rw (run-none (tokens_ahead source))
 -- ---- what stops
 
 -- a token that isn't there ends what isn't whole
-pub token_stops : (source : Source) (state : State) (stop : Stop) → whole state ≡ None → StopsToken source state stop → Stops source (Some state) stop
+pub token_stops : (source : Source) (state : ReadingState) (stop : Stop) → whole state ≡ None → StopsToken source state stop → Stops source (Some state) stop
 token_stops source state Wrong part is = is ∙ ap whole_or_wrong part
 token_stops source state Cut part is = is
 token_stops source state NoMemory part is = tt
 
 -- a token that can't stand there
-pub other_stops : (old new : Source) (state : State) (after : Option State) → reading (Some state) old ≡ reading after new → after ≡ None → reading (Some state) old ≡ machine.Wrong
+pub other_stops : (old new : Source) (state : ReadingState) (after : Option ReadingState) → reading (Some state) old ≡ reading after new → after ≡ None → reading (Some state) old ≡ machine.Wrong
 other_stops old new state after same none = same ∙ ap (λ s. reading s new) none ∙ reading-none new
 
 -- what stops a part stops the whole
-pub part_stops : (old middle : Source) (first second : Option State) (stop : Stop) → reading first old ≡ reading second middle → Stops middle second stop → Stops old first stop
+pub part_stops : (old middle : Source) (first second : Option ReadingState) (stop : Stop) → reading first old ≡ reading second middle → Stops middle second stop → Stops old first stop
 part_stops old middle first second Wrong same is = same ∙ is
 part_stops old middle first second Cut same is = same ∙ is
 part_stops old middle first second NoMemory same is = tt

@@ -3,7 +3,7 @@ use Rattle.std.proofs.Common.{◌≡◌, ℕ, ◌+◌, ◌==◌, cond, Bool, tru
 use Rattle.cond_syntax.specs.Tokens as plain
 use Rattle.cond_syntax.specs.Fronts.{front_from, is_cut_from, all_known}
 use Rattle.cond_syntax.specs.WrittenConditions.{WrittenTerm, Comparison}
-use Rattle.cond_text.specs.Machine.{State, Frame, Due, Second, open_read, word_read, comma_read, close_due, operator_read, term_read}
+use Rattle.cond_text.specs.Machine.{ReadingState, Frame, Due, Second, open_read, word_read, comma_read, close_due, operator_read, term_read}
 use Rattle.cond_text.specs.Comparisons.{term_begun}
 use Rattle.cond_text.specs.CodeTokens.{token_seen}
 use Rattle.cond_text.specs.TokenSteps.{opened_after, inside_after, knows}
@@ -13,19 +13,19 @@ use Rattle.cond_text.specs.declared.tokens.TextToken.TheVariants.{Word, Number, 
 some_same : {A : Type 0} {x y : A} → Some x ≡ Some y → x ≡ y
 some_same is = cc
 
-pub open_read-other : (next : State) (t : TextToken) → (t ≡ Open → ⊥) → open_read next (token_seen t) ≡ None
+pub open_read-other : (next : ReadingState) (t : TextToken) → (t ≡ Open → ⊥) → open_read next (token_seen t) ≡ None
 open_read-other next Open isnt = absurd (isnt refl)
 open_read-other next _ isnt = refl
 
-pub word_read-other : (next : List ℕ → State) (t : TextToken) → ((word : Bor (List ℕ)) → t ≡ Word word → ⊥) → word_read next (token_seen t) ≡ None
+pub word_read-other : (next : List ℕ → ReadingState) (t : TextToken) → ((word : Bor (List ℕ)) → t ≡ Word word → ⊥) → word_read next (token_seen t) ≡ None
 word_read-other next (Word word) isnt = absurd (isnt word refl)
 word_read-other next _ isnt = refl
 
-pub comma_read-other : (next : State) (t : TextToken) → (t ≡ Comma → ⊥) → comma_read next (token_seen t) ≡ None
+pub comma_read-other : (next : ReadingState) (t : TextToken) → (t ≡ Comma → ⊥) → comma_read next (token_seen t) ≡ None
 comma_read-other next Comma isnt = absurd (isnt refl)
 comma_read-other next _ isnt = refl
 
-pub close_due-other : (next : State) (t : TextToken) → (t ≡ Close → ⊥) → close_due next (token_seen t) ≡ None
+pub close_due-other : (next : ReadingState) (t : TextToken) → (t ≡ Close → ⊥) → close_due next (token_seen t) ≡ None
 close_due-other next Close isnt = absurd (isnt refl)
 close_due-other next _ isnt = refl
 

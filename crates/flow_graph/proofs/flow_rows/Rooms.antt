@@ -11,9 +11,9 @@ use Rattle.number_rows.proofs.CallerLemmas.{KeepsRows}
 use Rattle.flow_graph.specs.declared.numbers.FlowNumbers.{FlowNumbers}
 use Rattle.flow_graph.specs.declared.shard.FlowShard.{FlowShard}
 use Rattle.flow_graph.specs.FlowNumbers.{has_row_at}
-use Rattle.flow_graph.specs.FlowState.{rows_in, has_row_in, room_for, has_room_in}
+use Rattle.flow_graph.specs.FlowState.{rows_in, has_row_in, room_in_shard, has_room_in}
 
-room-kept : (u : Use) (s t : FlowShard) (k : ℤ) → ((sort : ℕ) (q : ℤ) → IsTrue (has_row_in s sort q) → IsTrue (has_row_in t sort q)) → IsTrue (room_for u s k) → IsTrue (room_for u t k)
+room-kept : (u : Use) (s t : FlowShard) (k : ℤ) → ((sort : ℕ) (q : ℤ) → IsTrue (has_row_in s sort q) → IsTrue (has_row_in t sort q)) → IsTrue (room_in_shard u s k) → IsTrue (room_in_shard u t k)
 room-kept Nothing s t k h r = r
 room-kept (On sort Reads) s t k h r = r
 room-kept (On sort Adds) s t k h r = h sort k r

@@ -44,7 +44,7 @@ within_of kind method e =
     let p = and_parts (nat_le (first_method kind) method) (nat_lt method (first_method kind + length (words_of kind))) e in
     record { from = leb-true _ _ p.0; upto = ltb-true _ _ p.1 }
 
-same_rest : (first m n : ℕ) → first ≤ m → m < first + 8 → first ≤ n → n < first + 8 → m % 8 ≡ n % 8 → m ≡ n
+same_rest : (first m n : ℕ) → first ≤ m → m < first + most_methods → first ≤ n → n < first + most_methods → m % most_methods ≡ n % most_methods → m ≡ n
 same_rest first m n a b c d e = omega arith
 
 -- no two methods of a kind leave the same rest
@@ -52,7 +52,7 @@ pub methods_apart : (kind : Kind) (m n : ℕ) → is_method (kind_number kind) m
 methods_apart kind m n e f rest =
     let p : IsOfKind (kind_number kind) m = within_of (kind_number kind) m e in
     let q : IsOfKind (kind_number kind) n = within_of (kind_number kind) n f in
-    let few : length (words_of (kind_number kind)) ≤ 8 = few_methods kind in
+    let few : length (words_of (kind_number kind)) ≤ most_methods = few_methods kind in
     let above : m < first_method (kind_number kind) + length (words_of (kind_number kind)) = p.upto in
     let below : n < first_method (kind_number kind) + length (words_of (kind_number kind)) = q.upto in
     same_rest (first_method (kind_number kind)) m n p.from (omega arith) q.from (omega arith) rest

@@ -15,12 +15,12 @@ abbrev all_kinds : List Kind
 all_kinds = Set ∷ Cells ∷ Flow ∷ Points ∷ Domains ∷ []
 
 abbrev number_in : Option Kind → ℕ
-number_in None = 5
+number_in None = length all_kinds
 number_in (Some kind) = kind_number kind
 
 first_of : (set cells flow points domains : Bool) (kind : Kind)
     → cond set (Some Set) (cond cells (Some Cells) (cond flow (Some Flow) (cond points (Some Points) (cond domains (Some Domains) None)))) ≡ Some kind
-    → cond set 0 (cond cells 1 (cond flow 2 (cond points 3 (cond domains 4 5)))) ≡ kind_number kind
+    → cond set (kind_number Set) (cond cells (kind_number Cells) (cond flow (kind_number Flow) (cond points (kind_number Points) (cond domains (kind_number Domains) (length all_kinds))))) ≡ kind_number kind
 first_of true cells flow points domains kind e = ap number_in e
 first_of false true flow points domains kind e = ap number_in e
 first_of false false true points domains kind e = ap number_in e
@@ -49,6 +49,6 @@ pub word_found : {A : Type 0} (v : A → List ℕ) (words : List A) (kind : Kind
     → v (get_or words (method - first_method (kind_number kind)) d) ≡ word_of method
 word_found v words kind method d found are =
     let p : (nat_le (first_method (kind_number kind)) method ≡ true) × (nat_lt method (first_method (kind_number kind) + length (words_of (kind_number kind))) ≡ true) = and_parts _ _ (found_passes (λ known. is_method (kind_number known) method) kind all_kinds found) in
-    let at : kind_with method ≡ kind_number kind = first_of (is_method 0 method) (is_method 1 method) (is_method 2 method) (is_method 3 method) (is_method 4 method) kind found in
+    let at : kind_with method ≡ kind_number kind = first_of (is_method (kind_number Set) method) (is_method (kind_number Cells) method) (is_method (kind_number Flow) method) (is_method (kind_number Points) method) (is_method (kind_number Domains) method) kind found in
     word_at v words (words_of (kind_number kind)) (method - first_method (kind_number kind)) d are (omega (arith, leb-true _ _ p.0, ltb-true _ _ p.1))
     ∙ ap (λ number. word_or_mark (slice_get (words_of number) (method - first_method number))) (sym at)

@@ -5,7 +5,7 @@ use Rattle.std.specs.Ordering.{int_eq}
 use Rattle.gx_base.specs.declared.calls.Call.{Call}
 use Rattle.gx_base.specs.declared.calls.Reply.{Reply}
 use Rattle.gx_base.specs.declared.calls.Spot.{Spot}
-use Rattle.gx_base.specs.PointKind.{spot_of, spot_at, place_of}
+use Rattle.gx_base.specs.PointKind.{spot_of, spot_at, point_row_of}
 use Rattle.gx_base.specs.RowActions.{turns, same_content}
 use Rattle.gx_base.specs.Spots.{spot_of_call}
 use Rattle.gx_base.proofs.CallerLemmas.{same_content-is}
@@ -50,14 +50,14 @@ node_held : (slots : List (Option Node)) (i : ℕ) (o : Option Node) (r : Spot) 
 node_held slots i None r g h = absurd h
 node_held slots i (Some n) r g h = holds-at slots i n r g h.1
 
-pub held_node : (tree : Tree) (c : Call) → turns true (place_of c) (tree_state tree) c.a ≡ true → has_node tree (spot_of_call c) ≡ true
+pub held_node : (tree : Tree) (c : Call) → turns true (point_row_of c) (tree_state tree) c.a ≡ true → has_node tree (spot_of_call c) ≡ true
 held_node tree c t =
-    let row : row_at (tree_state tree) (0, c.a) ≡ place_of c = same_content-is (row_at (tree_state tree) (0, c.a)) (place_of c) t in
+    let row : row_at (tree_state tree) (0, c.a) ≡ point_row_of c = same_content-is (row_at (tree_state tree) (0, c.a)) (point_row_of c) t in
     let l : IsLive (node_at tree) (spot_of_call c) = there_live tree c.a (spot_of_call c) (ap (spot_of c.a) row) in
     node_held tree.nodes.slots l.0 (node_at tree l.0) (spot_of_call c) refl l.1
 
 -- so it can be undone in that node
-pub removed_room : (old new : Tree) (c : Call) (holds : Bool) (reply : Reply) → KeepsNodes old new → holds ≡ turns true (place_of c) (tree_state old) c.a → holds ≡ true → IsTrue (changed_room (has_node new (spot_of_call c)) reply)
+pub removed_room : (old new : Tree) (c : Call) (holds : Bool) (reply : Reply) → KeepsNodes old new → holds ≡ turns true (point_row_of c) (tree_state old) c.a → holds ≡ true → IsTrue (changed_room (has_node new (spot_of_call c)) reply)
 removed_room old new c holds reply k e t =
     subst (λ b. IsTrue (changed_room b reply)) (sym (k (spot_of_call c) (held_node old c (sym e ∙ t)))) (by_reply (int_eq reply.p (pos 1)))
   where

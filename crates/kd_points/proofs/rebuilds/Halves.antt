@@ -24,7 +24,7 @@ use Rattle.kd_points.specs.declared.nodes.Seat.{Seat}
 use Rattle.kd_points.specs.declared.nodes.Seat.TheVariants.{Found, Free, Empty}
 use Rattle.kd_points.specs.declared.tree.Tree.{Tree}
 use Rattle.kd_points.specs.Trees.{coordinate, level_cmp, spot_cmp, is_bare, IsSeat}
-use Rattle.kd_points.specs.TreeStates.{node_at, tree_state, NoPoint, NoneBare, IsClear, IsSound, key_of, SeatsStay, IsBelow, IsBlank}
+use Rattle.kd_points.specs.TreeStates.{node_at, tree_state, NoPoint, NoneBare, IsClear, IsSound, key_of, SeatsStay, HangsBelow, IsBlank}
 use Rattle.kd_points.specs.Rebuilding.{IsPointOf, HaveOwnIds, AreNew, Gathers}
 use Rattle.kd_points.proofs.trees.Openings.{on_way_there}
 use Rattle.kd_points.proofs.states.Basics.{int_eq-of, int_eq-comm, none_some, not_both}
@@ -180,7 +180,7 @@ module _ (old : Tree) (spots front back : List Spot) (middle : Spot) (seat : Sea
   back_right : (r : Spot) → Contains back r → is_lt (spot_cmp axis r middle) ≡ false
   back_right r k = subst (λ y. is_lt (spot_cmp axis y middle) ≡ false) k.2 (split.1 k.0 r k.1)
 
-  module _ (mid : Tree) (key : ℕ) (first : Gathers old mid (middle ∷ [])) (b : IsBelow old mid seat middle axis key) where
+  module _ (mid : Tree) (key : ℕ) (first : Gathers old mid (middle ∷ [])) (b : HangsBelow old mid seat middle axis key) where
     pub front_new : AreNew mid front (Free key true)
     front_new = record {
       own = own_left front back ends;
@@ -198,14 +198,14 @@ module _ (old : Tree) (spots front back : List Spot) (middle : Spot) (seat : Sea
     }
 
 -- other seats stay through all
-module _ (old mid next end : Tree) (seat : Seat) (middle : Spot) (axis : Axis) (key : ℕ) (b : IsBelow old mid seat middle axis key) where
+module _ (old mid next end : Tree) (seat : Seat) (middle : Spot) (axis : Axis) (key : ℕ) (b : HangsBelow old mid seat middle axis key) where
   other_node : (r : Spot) (j : ℕ) (side left : Bool) → IsSeat (node_at old) old.root r (Free j side) → Free j side ≡ Free key left → ⊥
   other_node r j side left s e = none_some s.0 (sym b.vacant ∙ ap (node_at old) (sym (free_key j key side left e)) ∙ s.1)
 
   all_beside : SeatsStay mid next (Free key true) → SeatsStay next end (Free key false) → SeatsStay old end seat
   all_beside f g = λ r j side s d. g r j side (f r j side (b.beside r j side s d) (other_node r j side true s)) (other_node r j side false s)
 
-pub all_beside_ok : {T E : Type 0} (result : Result T E) (old mid next end : Tree) (seat : Seat) (middle : Spot) (axis : Axis) (key : ℕ) → IsBelow old mid seat middle axis key → SeatsStay mid next (Free key true)
+pub all_beside_ok : {T E : Type 0} (result : Result T E) (old mid next end : Tree) (seat : Seat) (middle : Spot) (axis : Axis) (key : ℕ) → HangsBelow old mid seat middle axis key → SeatsStay mid next (Free key true)
     → OnOk result (SeatsStay next end (Free key false)) → OnOk result (SeatsStay old end seat)
 all_beside_ok (Ok x) old mid next end seat middle axis key b f g = all_beside old mid next end seat middle axis key b f g
 all_beside_ok (Err x) old mid next end seat middle axis key b f g = tt

@@ -11,12 +11,12 @@ use Rattle.kd_points.specs.declared.nodes.Node.{Node}
 use Rattle.kd_points.specs.declared.nodes.Seat.{Seat}
 use Rattle.kd_points.specs.declared.nodes.Seat.TheVariants.{Free}
 use Rattle.kd_points.specs.declared.tree.Tree.{Tree}
-use Rattle.kd_points.specs.Trees.{depth_of, depth_below, seat_depth}
-use Rattle.kd_points.specs.TreeStates.{node_at, IsBelow, IsBlank}
+use Rattle.kd_points.specs.Trees.{node_depth, depth_below, seat_depth}
+use Rattle.kd_points.specs.TreeStates.{node_at, HangsBelow, IsBlank}
 use Rattle.kd_points.specs.Rebuilding.{IsLow, IsBalancedTree}
 use Rattle.kd_points.proofs.states.Basics.{none_some, some_is}
 
-below_of : (o : Option Node) (d : ℕ) → depth_of o ≡ Some d → depth_below o ≡ suc d
+below_of : (o : Option Node) (d : ℕ) → node_depth o ≡ Some d → depth_below o ≡ suc d
 below_of None d e = absurd (none_some d e)
 below_of (Some n) d e = ap suc (some_is n.depth d e)
 
@@ -36,7 +36,7 @@ one_at_least : (count front back : ℕ) → count ≡ front + suc back → 2 ^ 0
 one_at_least count front back e = omega arith
 
 -- a node, and two halves below it
-module _ (a b c d : Tree) (seat : Seat) (spot : Spot) (axis : Axis) (key front back count : ℕ) (n : IsBelow a b seat spot axis key) (f : IsLow b c (seat_depth (node_at b) (Free key true)) front)
+module _ (a b c d : Tree) (seat : Seat) (spot : Spot) (axis : Axis) (key front back count : ℕ) (n : HangsBelow a b seat spot axis key) (f : IsLow b c (seat_depth (node_at b) (Free key true)) front)
     (g : IsLow c d (seat_depth (node_at c) (Free key false)) back) (all : count ≡ front + suc back) (low : front + front ≤ count) (high : back + back ≤ count) where
   abbrev depth : ℕ
   depth = seat_depth (node_at a) seat
@@ -48,29 +48,29 @@ module _ (a b c d : Tree) (seat : Seat) (spot : Spot) (axis : Axis) (key front b
   back_depth = below_of (node_at c key) depth (f.stay key depth n.deep)
 
   abbrev IsHere : ℕ → ℕ → Type 0
-  IsHere j e = (depth_of (node_at a j) ≡ Some e) ⊎ ((h : ℕ) × (e ≡ depth + h) × (2 ^ h ≤ count))
+  IsHere j e = (node_depth (node_at a j) ≡ Some e) ⊎ ((h : ℕ) × (e ≡ depth + h) × (2 ^ h ≤ count))
 
   in_half : (j e under half : ℕ) → under ≡ suc depth → half + half ≤ count → ((h : ℕ) × (e ≡ under + h) × (2 ^ h ≤ half)) → IsHere j e
   in_half j e under half u small x = inr (suc x.0, (let p : e ≡ under + x.0 = x.1 in omega arith), twice x.0 count half x.2 small)
 
-  in_b : (j e : ℕ) → depth_of (node_at b j) ≡ Some e → IsHere j e
+  in_b : (j e : ℕ) → node_depth (node_at b j) ≡ Some e → IsHere j e
   in_b j e k = by_key (n.other_depths j e k)
     where
-      by_key : (j ≡ key) ⊎ (depth_of (node_at a j) ≡ Some e) → IsHere j e
-      by_key (inl s) = inr (0, (let same : e ≡ depth = some_is e depth (sym k ∙ ap (λ i. depth_of (node_at b i)) s ∙ n.deep) in omega arith), one_at_least count front back all)
+      by_key : (j ≡ key) ⊎ (node_depth (node_at a j) ≡ Some e) → IsHere j e
+      by_key (inl s) = inr (0, (let same : e ≡ depth = some_is e depth (sym k ∙ ap (λ i. node_depth (node_at b i)) s ∙ n.deep) in omega arith), one_at_least count front back all)
       by_key (inr h) = inl h
 
-  in_c : (j e : ℕ) → depth_of (node_at c j) ≡ Some e → IsHere j e
+  in_c : (j e : ℕ) → node_depth (node_at c j) ≡ Some e → IsHere j e
   in_c j e k = by_fresh (f.fresh j e k)
     where
-      by_fresh : (depth_of (node_at b j) ≡ Some e) ⊎ ((h : ℕ) × (e ≡ depth_below (node_at b key) + h) × (2 ^ h ≤ front)) → IsHere j e
+      by_fresh : (node_depth (node_at b j) ≡ Some e) ⊎ ((h : ℕ) × (e ≡ depth_below (node_at b key) + h) × (2 ^ h ≤ front)) → IsHere j e
       by_fresh (inl h) = in_b j e h
       by_fresh (inr x) = in_half j e (depth_below (node_at b key)) front front_depth low x
 
-  in_d : (j e : ℕ) → depth_of (node_at d j) ≡ Some e → IsHere j e
+  in_d : (j e : ℕ) → node_depth (node_at d j) ≡ Some e → IsHere j e
   in_d j e k = by_fresh (g.fresh j e k)
     where
-      by_fresh : (depth_of (node_at c j) ≡ Some e) ⊎ ((h : ℕ) × (e ≡ depth_below (node_at c key) + h) × (2 ^ h ≤ back)) → IsHere j e
+      by_fresh : (node_depth (node_at c j) ≡ Some e) ⊎ ((h : ℕ) × (e ≡ depth_below (node_at c key) + h) × (2 ^ h ≤ back)) → IsHere j e
       by_fresh (inl h) = in_c j e h
       by_fresh (inr x) = in_half j e (depth_below (node_at c key)) back back_depth high x
 
@@ -81,7 +81,7 @@ module _ (a b c d : Tree) (seat : Seat) (spot : Spot) (axis : Axis) (key front b
     size = let x = n.size in let y = f.size in let z = g.size in omega arith;
   }
 
-pub low_parts_ok : {T E : Type 0} (result : Result T E) (a b c d : Tree) (seat : Seat) (spot : Spot) (axis : Axis) (key front back count : ℕ) → IsBelow a b seat spot axis key → IsLow b c (seat_depth (node_at b) (Free key true)) front
+pub low_parts_ok : {T E : Type 0} (result : Result T E) (a b c d : Tree) (seat : Seat) (spot : Spot) (axis : Axis) (key front back count : ℕ) → HangsBelow a b seat spot axis key → IsLow b c (seat_depth (node_at b) (Free key true)) front
     → OnOk result (IsLow c d (seat_depth (node_at c) (Free key false)) back) → count ≡ front + suc back → front + front ≤ count → back + back ≤ count → OnOk result (IsLow a d (seat_depth (node_at a) seat) count)
 low_parts_ok (Ok x) a b c d seat spot axis key front back count n f g all low high = low_parts a b c d seat spot axis key front back count n f g all low high
 low_parts_ok (Err x) a b c d seat spot axis key front back count n f g all low high = tt
@@ -93,6 +93,6 @@ blank_balanced blank new count b l j d e = by_fresh (l.fresh j d e)
     empty : slab_len blank.nodes ≡ 0
     empty = ap (count_by (is_some {T = Node})) b.slots
 
-    by_fresh : (depth_of (node_at blank j) ≡ Some d) ⊎ ((h : ℕ) × (d ≡ 0 + h) × (2 ^ h ≤ count)) → 2 ^ d ≤ slab_len new.nodes
-    by_fresh (inl h) = absurd (none_some d (sym (ap (λ slots. depth_of (slice_index_or slots j None)) b.slots) ∙ h))
+    by_fresh : (node_depth (node_at blank j) ≡ Some d) ⊎ ((h : ℕ) × (d ≡ 0 + h) × (2 ^ h ≤ count)) → 2 ^ d ≤ slab_len new.nodes
+    by_fresh (inl h) = absurd (none_some d (sym (ap (λ slots. node_depth (slice_index_or slots j None)) b.slots) ∙ h))
     by_fresh (inr x) = let same : d ≡ x.0 = (let p : d ≡ 0 + x.0 = x.1 in omega arith) in let p : 2 ^ d ≡ 2 ^ x.0 = ap (λ k. 2 ^ k) same in let q : 2 ^ x.0 ≤ count = x.2 in let s : slab_len new.nodes ≡ slab_len blank.nodes + count = l.size in omega (arith, empty)

@@ -4,7 +4,7 @@ use Rattle.std.proofs.Common.{sym, ◌∙◌, ap, subst, arith}
 use Rattle.gx_base.specs.declared.calls.Spot.{Spot}
 use Rattle.kd_points.specs.declared.nodes.Node.{Node}
 use Rattle.kd_points.specs.declared.search.Pending.{Pending}
-use Rattle.kd_points.specs.Trees.{Nodes, is_left, child, depth_of, IsTree}
+use Rattle.kd_points.specs.Trees.{Nodes, is_left, child, node_depth, IsTree}
 use Rattle.kd_points.specs.Searches.{to_plane, pending_at, is_past, far_side, sides_of}
 use Rattle.kd_points.proofs.states.Basics.{none_some, some_is}
 use Rattle.kd_points.proofs.trees.Seats.{depth_or_zero}
@@ -33,11 +33,11 @@ less_left look size rest next =
     let b : 1 ≤ weight (size - depth_or_zero (look next.from)) = weight-some (size - depth_or_zero (look next.from)) in
     omega arith
 
-depth_is : (o : Option Node) (d : ℕ) → depth_of o ≡ Some d → depth_or_zero o ≡ d
+depth_is : (o : Option Node) (d : ℕ) → node_depth o ≡ Some d → depth_or_zero o ≡ d
 depth_is None d e = absurd (none_some d e)
 depth_is (Some n) d e = some_is n.depth d e
 
-side_work : (look : Nodes) (size d : ℕ) (side : Option ℕ) (reach : ℕ) → ((c : ℕ) → side ≡ Some c → depth_of (look c) ≡ Some d) → work look size (pending_at side reach) ≤ weight (size - d)
+side_work : (look : Nodes) (size d : ℕ) (side : Option ℕ) (reach : ℕ) → ((c : ℕ) → side ≡ Some c → node_depth (look c) ≡ Some d) → work look size (pending_at side reach) ≤ weight (size - d)
 side_work look size d None reach h = omega arith
 side_work look size d (Some c) reach h = let e : weight (size - depth_or_zero (look c)) ≡ weight (size - d) = ap (λ x. weight (size - x)) (depth_is (look c) d (h c refl)) in omega arith
 

@@ -5,7 +5,7 @@ use Rattle.std.specs.Ordering.{int_eq}
 use Rattle.gx_base.specs.declared.calls.Spot.{Spot}
 use Rattle.kd_points.specs.declared.nodes.Node.{Node}
 use Rattle.kd_points.specs.declared.nodes.Seat.TheVariants.{Free}
-use Rattle.kd_points.specs.Trees.{Nodes, is_left, child, child_of, way, depth_of, linked, is_bare, FitsSpot, IsTree, IsSeat, IsOpenTo}
+use Rattle.kd_points.specs.Trees.{Nodes, is_left, child, child_of, way, node_depth, linked, is_bare, FitsSpot, IsTree, IsSeat, IsOpenTo}
 use Rattle.kd_points.specs.TreeStates.{place, row_of_node}
 use Rattle.kd_points.proofs.states.Basics.{same_key, not_both, int_eq-itself, int_eq-comm, none_some, some_is}
 use Rattle.kd_points.proofs.states.StateRows.{row_found, Settles, row_of_live, row_of_another, row_of_alike}
@@ -133,13 +133,13 @@ module _ (look next : Nodes) (key at : ℕ) (n leaf : Node) (left : Bool) (vacan
     placed j m (inr w) =
         ap (λ s. way next s m.depth root) w.amends.spot ∙ ap (λ d. way next w.old.spot d root) w.amends.depth ∙ way_kept look next grown_stays w.old.spot w.old.depth root j (t.placed j w.old w.stood_there)
 
-    nested : (j c : ℕ) (m : Node) (s : Bool) → child m s ≡ Some c → ((j ≡ key) × (leaf ≡ m)) ⊎ Stood j m → depth_of (next c) ≡ Some (suc m.depth)
+    nested : (j c : ℕ) (m : Node) (s : Bool) → child m s ≡ Some c → ((j ≡ key) × (leaf ≡ m)) ⊎ Stood j m → node_depth (next c) ≡ Some (suc m.depth)
     nested j c m s e (inl p) = absurd (none_some c (sym (bare s) ∙ ap (λ (x : Node). child x s) p.1 ∙ e))
     nested j c m s e (inr w) = by_child (w.children s c e)
       where
-        by_child : (child w.old s ≡ Some c) ⊎ ((key ≡ c) × (w.old ≡ n)) → depth_of (next c) ≡ Some (suc m.depth)
+        by_child : (child w.old s ≡ Some c) ⊎ ((key ≡ c) × (w.old ≡ n)) → node_depth (next c) ≡ Some (suc m.depth)
         by_child (inl k) = depth_stays look next grown_stays c (suc w.old.depth) (t.nested j c w.old s w.stood_there k) ∙ ap (λ d. Some (suc d)) (sym w.amends.depth)
-        by_child (inr k) = ap (λ x. depth_of (next x)) (sym k.0) ∙ ap depth_of here ∙ ap Some deep ∙ ap (λ (x : Node). Some (suc x.depth)) (sym k.1) ∙ ap (λ d. Some (suc d)) (sym w.amends.depth)
+        by_child (inr k) = ap (λ x. node_depth (next x)) (sym k.0) ∙ ap node_depth here ∙ ap Some deep ∙ ap (λ (x : Node). Some (suc x.depth)) (sym k.1) ∙ ap (λ d. Some (suc d)) (sym w.amends.depth)
 
     shallow : (j : ℕ) (m : Node) → ((j ≡ key) × (leaf ≡ m)) ⊎ Stood j m → m.depth < size + 1
     shallow j m (inl p) = let b : n.depth < size = t.shallow at n stood in let e : m.depth ≡ leaf.depth = ap (λ (x : Node). x.depth) (sym p.1) in omega (arith, deep)
@@ -229,7 +229,7 @@ module _ (look next : Nodes) (key : ℕ) (leaf : Node) (vacant : look key ≡ No
 
   pub first_tree : IsTree next (Some key) (size + 1) after
   first_tree = record {
-    rooted = λ r e. ap (λ k. depth_of (next k)) (sym (some_is key r e)) ∙ ap depth_of here ∙ ap Some deep;
+    rooted = λ r e. ap (λ k. node_depth (next k)) (sym (some_is key r e)) ∙ ap node_depth here ∙ ap Some deep;
     placed = λ j m g. let p = alone j m g in subst (λ (x : Node). way next x.spot x.depth (Some key) ≡ Some j) p.1 (ap (λ d. way next leaf.spot d (Some key)) deep ∙ ap Some (sym p.0));
     nested = λ j c m s g e. absurd (none_some c (sym (bare s) ∙ ap (λ (x : Node). child x s) (alone j m g).1 ∙ e));
     shallow = λ j m g. let e : m.depth ≡ leaf.depth = ap (λ (x : Node). x.depth) (sym (alone j m g).1) in omega (arith, deep);

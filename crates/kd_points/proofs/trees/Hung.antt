@@ -11,8 +11,8 @@ use Rattle.kd_points.specs.declared.nodes.Node.{Node}
 use Rattle.kd_points.specs.declared.nodes.Seat.{Seat}
 use Rattle.kd_points.specs.declared.nodes.Seat.TheVariants.{Free, Empty}
 use Rattle.kd_points.specs.declared.tree.Tree.{Tree}
-use Rattle.kd_points.specs.Trees.{child, way, is_left, leaf_of, linked, depth_of, depth_below, FitsSpot, IsTree, IsSeat}
-use Rattle.kd_points.specs.TreeStates.{node_at, key_of, place, tree_rows, tree_state, count_of, dead_nodes, IsSound, IsAlike, IsPlanted, IsBelow, has_node, NoPoint, IsClear, NoneBare}
+use Rattle.kd_points.specs.Trees.{child, way, is_left, leaf_of, linked, node_depth, depth_below, FitsSpot, IsTree, IsSeat}
+use Rattle.kd_points.specs.TreeStates.{node_at, key_of, place, tree_rows, tree_state, count_of, dead_nodes, IsSound, IsAlike, IsPlanted, HangsBelow, has_node, NoPoint, IsClear, NoneBare}
 use Rattle.kd_points.proofs.states.Basics.{none_some, some_is, same_key}
 use Rattle.kd_points.proofs.states.StateRows.{with_rows, Settles}
 use Rattle.kd_points.proofs.states.Counts.{count-more}
@@ -104,7 +104,7 @@ module _ (old mid new : Tree) (spot : Spot) (axis : Axis) (key at : ℕ) (n : No
       (grown_stays (node_at old) (node_at new) key at n leaf left p.vacant stood open_side here u.changed others)
       (ap (λ (t : Tree). t.live) rest ∙ p.live) here refl (size ∙ p.size)
 
-  pub hung_below : IsBelow old new (Free at left) spot axis key
+  pub hung_below : HangsBelow old new (Free at left) spot axis key
   hung_below = record {
     vacant = p.vacant;
     below = λ r s.
@@ -119,7 +119,7 @@ module _ (old mid new : Tree) (spot : Spot) (axis : Axis) (key at : ℕ) (n : No
         );
     beside = λ r j side s d. subst (λ o. IsSeat (node_at new) o r (Free j side)) (sym root)
         (seat_stays (node_at old) (node_at new) key at n leaf left p.vacant stood open_side here u.changed others r old.root j side s d);
-    deep = ap depth_of here ∙ ap Some (n_plus_one n.depth) ∙ sym (ap (λ o. Some (depth_below o)) stood);
+    deep = ap node_depth here ∙ ap Some (n_plus_one n.depth) ∙ sym (ap (λ o. Some (depth_below o)) stood);
     other_depths = λ j d e. by_key j d e (same_key j key) (same_key j at);
     depths_stay = depth_stays (node_at old) (node_at new) (grown_stays (node_at old) (node_at new) key at n leaf left p.vacant stood open_side here u.changed others);
     size = size ∙ p.size;
@@ -131,10 +131,10 @@ module _ (old mid new : Tree) (spot : Spot) (axis : Axis) (key at : ℕ) (n : No
       by_bare b j m g (inr k) (inl f) = ap (λ (x : Node). x.bare) (some_is m (linked n left key) (sym g ∙ ap (node_at new) f ∙ u.changed)) ∙ linked_bare n left key ∙ b at n stood
       by_bare b j m g (inr k) (inr f) = b j m (sym (others j k f) ∙ g)
 
-      by_key : (j d : ℕ) → depth_of (node_at new j) ≡ Some d → (j ≡ key) ⊎ (j ≡ key → ⊥) → (j ≡ at) ⊎ (j ≡ at → ⊥) → (j ≡ key) ⊎ (depth_of (node_at old j) ≡ Some d)
+      by_key : (j d : ℕ) → node_depth (node_at new j) ≡ Some d → (j ≡ key) ⊎ (j ≡ key → ⊥) → (j ≡ at) ⊎ (j ≡ at → ⊥) → (j ≡ key) ⊎ (node_depth (node_at old j) ≡ Some d)
       by_key j d e (inl k) f = inl k
-      by_key j d e (inr k) (inl f) = inr (ap depth_of (ap (node_at old) f ∙ stood) ∙ sym (ap Some (linked_depth n left key)) ∙ sym (ap depth_of (ap (node_at new) f ∙ u.changed)) ∙ e)
-      by_key j d e (inr k) (inr f) = inr (sym (ap depth_of (others j k f)) ∙ e)
+      by_key j d e (inr k) (inl f) = inr (ap node_depth (ap (node_at old) f ∙ stood) ∙ sym (ap Some (linked_depth n left key)) ∙ sym (ap node_depth (ap (node_at new) f ∙ u.changed)) ∙ e)
+      by_key j d e (inr k) (inr f) = inr (sym (ap node_depth (others j k f)) ∙ e)
 
 -- as the root
 pub rooted_from : (old mid : Tree) (spot : Spot) (axis : Axis) (key : ℕ) → IsSound old → NoPoint old spot.id → old.root ≡ None → IsPlanted old mid key (leaf_of axis spot 0 None) → FitsSpot spot → Grown old (record mid { root = Some key }) spot
@@ -147,12 +147,12 @@ rooted_from old mid spot axis key s free none p fits =
     (first_stays (node_at old) (node_at mid) key (leaf_of axis spot 0 None) p.vacant p.nodes.changed p.nodes.others (slab_len old.nodes) (key_of old) (key_of mid) t (childless axis spot 0 None) refl fits p.keys refl)
     p.live p.nodes.changed refl p.size
 
-pub rooted_below : (old mid : Tree) (spot : Spot) (axis : Axis) (key : ℕ) → old.root ≡ None → IsPlanted old mid key (leaf_of axis spot 0 None) → IsBelow old (record mid { root = Some key }) Empty spot axis key
+pub rooted_below : (old mid : Tree) (spot : Spot) (axis : Axis) (key : ℕ) → old.root ≡ None → IsPlanted old mid key (leaf_of axis spot 0 None) → HangsBelow old (record mid { root = Some key }) Empty spot axis key
 rooted_below old mid spot axis key none p = record {
   vacant = p.vacant;
   below = λ r s. (leaf_of axis spot 0 None, p.nodes.changed, childless axis spot 0 None (is_left (leaf_of axis spot 0 None) r), refl, refl);
   beside = λ r j side s d. absurd (ended (node_at old) r s.0.depth j (ap (way (node_at old) r s.0.depth) (sym none) ∙ s.4));
-  deep = ap depth_of p.nodes.changed;
+  deep = ap node_depth p.nodes.changed;
   other_depths = λ j d e. by_key j d e (same_key j key);
   depths_stay = λ j d e. kept j d e (same_key j key);
   size = p.size;
@@ -163,16 +163,16 @@ rooted_below old mid spot axis key none p = record {
     by_bare b j m g (inl k) = ap (λ (x : Node). x.bare) (some_is m (leaf_of axis spot 0 None) (sym g ∙ ap (node_at mid) k ∙ p.nodes.changed))
     by_bare b j m g (inr k) = b j m (sym (p.nodes.others j k) ∙ g)
 
-    by_key : (j d : ℕ) → depth_of (node_at mid j) ≡ Some d → (j ≡ key) ⊎ (j ≡ key → ⊥) → (j ≡ key) ⊎ (depth_of (node_at old j) ≡ Some d)
+    by_key : (j d : ℕ) → node_depth (node_at mid j) ≡ Some d → (j ≡ key) ⊎ (j ≡ key → ⊥) → (j ≡ key) ⊎ (node_depth (node_at old j) ≡ Some d)
     by_key j d e (inl k) = inl k
-    by_key j d e (inr k) = inr (sym (ap depth_of (p.nodes.others j k)) ∙ e)
+    by_key j d e (inr k) = inr (sym (ap node_depth (p.nodes.others j k)) ∙ e)
 
-    kept : (j d : ℕ) → depth_of (node_at old j) ≡ Some d → (j ≡ key) ⊎ (j ≡ key → ⊥) → depth_of (node_at mid j) ≡ Some d
-    kept j d e (inl k) = absurd (none_some d (sym (ap depth_of (ap (node_at old) k ∙ p.vacant)) ∙ e))
-    kept j d e (inr k) = ap depth_of (p.nodes.others j k) ∙ e
+    kept : (j d : ℕ) → node_depth (node_at old j) ≡ Some d → (j ≡ key) ⊎ (j ≡ key → ⊥) → node_depth (node_at mid j) ≡ Some d
+    kept j d e (inl k) = absurd (none_some d (sym (ap node_depth (ap (node_at old) k ∙ p.vacant)) ∙ e))
+    kept j d e (inr k) = ap node_depth (p.nodes.others j k) ∙ e
 
 -- the count of points doesn't matter
-pub below_counted : (old new : Tree) (seat : Seat) (spot : Spot) (axis : Axis) (key : ℕ) → IsBelow old new seat spot axis key → IsBelow old (record new { live = new.live + 1 }) seat spot axis key
+pub below_counted : (old new : Tree) (seat : Seat) (spot : Spot) (axis : Axis) (key : ℕ) → HangsBelow old new seat spot axis key → HangsBelow old (record new { live = new.live + 1 }) seat spot axis key
 below_counted old new seat spot axis key b = record { vacant = b.vacant; below = b.below; beside = b.beside; deep = b.deep; other_depths = b.other_depths; depths_stay = b.depths_stay; size = b.size; none_bare = b.none_bare }
 
 -- a new node is live, and one that was dead may have become so

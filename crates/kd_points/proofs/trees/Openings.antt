@@ -3,7 +3,7 @@ use Rattle.std.specs.Prelude.{◌≡◌, ℕ, zero, suc, ◌≤◌, ℤ, Bool, t
 use Rattle.std.proofs.Common.{sym, ◌∙◌, ap, subst, arith, inl, inr}
 use Rattle.gx_base.specs.declared.calls.Spot.{Spot}
 use Rattle.kd_points.specs.declared.nodes.Node.{Node}
-use Rattle.kd_points.specs.Trees.{Nodes, is_left, child, child_of, way, depth_of, is_bare, all_bare, IsTree, IsOpenTo}
+use Rattle.kd_points.specs.Trees.{Nodes, is_left, child, child_of, way, node_depth, is_bare, all_bare, IsTree, IsOpenTo}
 use Rattle.kd_points.proofs.states.Basics.{none_some, some_is, not_both}
 use Rattle.kd_points.proofs.trees.Ways.{AllStay, ended, way_further, way_kept}
 
@@ -38,7 +38,7 @@ less_or (suc k) (suc d) h = further (less_or k d (omega arith))
     further (inl e) = inl (ap suc e)
     further (inr e) = inr (omega arith)
 
-there_of : (o : Option Node) (d : ℕ) → depth_of o ≡ Some d → is_some o ≡ true
+there_of : (o : Option Node) (d : ℕ) → node_depth o ≡ Some d → is_some o ≡ true
 there_of None d e = absurd (none_some d e)
 there_of (Some n) d e = refl
 

@@ -3,7 +3,7 @@ use Rattle.std.specs.Prelude.{◌≡◌, ℕ, suc, ◌<◌, ◌≤◌, ℤ, Bool
 use Rattle.std.proofs.Common.{sym, ◌∙◌, ap, arith}
 use Rattle.gx_base.specs.declared.calls.Spot.{Spot}
 use Rattle.kd_points.specs.declared.nodes.Node.{Node}
-use Rattle.kd_points.specs.Trees.{Nodes, is_left, child, child_of, way, depth_of, IsTree}
+use Rattle.kd_points.specs.Trees.{Nodes, is_left, child, child_of, way, node_depth, IsTree}
 use Rattle.kd_points.specs.TreeStates.{holds_spot}
 use Rattle.kd_points.proofs.states.Basics.{false_of, none_some, some_is}
 use Rattle.kd_points.proofs.trees.Ways.{ended, way_further, way_over}
@@ -19,12 +19,12 @@ pub record OnWay (look : Nodes) (root : Option ℕ) (spot : Spot) (at : ℕ) : T
   pub on_way : (n : Node) → look at ≡ Some n → way look spot n.depth root ≡ Some at
   pub deeper : (n : Node) (j : ℕ) (m : Node) → look at ≡ Some n → look j ≡ Some m → m.spot ≡ spot → n.depth ≤ m.depth
 
-depth_there : (o : Option Node) (d : ℕ) → depth_of o ≡ Some d → is_some o ≡ true
+depth_there : (o : Option Node) (d : ℕ) → node_depth o ≡ Some d → is_some o ≡ true
 depth_there None d e = absurd (none_some d e)
 depth_there (Some n) d e = refl
 
-depth_is : (o : Option Node) (d : ℕ) (n : Node) → depth_of o ≡ Some d → o ≡ Some n → n.depth ≡ d
-depth_is o d n e g = some_is n.depth d (sym (ap depth_of g) ∙ e)
+depth_is : (o : Option Node) (d : ℕ) (n : Node) → node_depth o ≡ Some d → o ≡ Some n → n.depth ≡ d
+depth_is o d n e g = some_is n.depth d (sym (ap node_depth g) ∙ e)
 
 module _ (look : Nodes) (root : Option ℕ) (size : ℕ) (numbers : ℤ → Option ℕ) (t : IsTree look root size numbers) (spot : Spot) where
   -- where this node isn't the spot's, those of the spot stand deeper

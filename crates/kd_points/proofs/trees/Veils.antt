@@ -5,7 +5,7 @@ use Rattle.slab.specs.Slab.{slab_len}
 use Rattle.gx_base.specs.declared.calls.Spot.{Spot}
 use Rattle.kd_points.specs.declared.nodes.Node.{Node}
 use Rattle.kd_points.specs.declared.tree.Tree.{Tree}
-use Rattle.kd_points.specs.Trees.{is_left, child, child_of, way, depth_of, is_bare, all_bare, IsTree, IsOpenTo}
+use Rattle.kd_points.specs.Trees.{is_left, child, child_of, way, node_depth, is_bare, all_bare, IsTree, IsOpenTo}
 use Rattle.kd_points.specs.TreeStates.{node_at, key_of, row_of_node, tree_state, count_of, IsSound, IsClear, KeepsNodes, IsVeiled}
 use Rattle.kd_points.proofs.states.Basics.{same_key, none_some, some_is}
 use Rattle.kd_points.proofs.states.StateRows.{with_rows, row_found, rows_of-same, row_of_alike}
@@ -115,17 +115,17 @@ pub record IsClearing (old new : Tree) (spot : Spot) (at : ℕ) : Type 0 where
   pub on_way : way (node_at new) spot (depth_or_zero (node_at new at)) new.root ≡ Some at
   pub above : (k j : ℕ) → k < depth_or_zero (node_at new at) → way (node_at new) spot k new.root ≡ Some j → is_bare (node_at new j) ≡ false
 
-depth_there : (o : Option Node) (d : ℕ) → depth_of o ≡ Some d → is_some o ≡ true
+depth_there : (o : Option Node) (d : ℕ) → node_depth o ≡ Some d → is_some o ≡ true
 depth_there None d e = absurd (none_some d e)
 depth_there (Some n) d e = refl
 
-depth_is : (o : Option Node) (d : ℕ) → depth_of o ≡ Some d → depth_or_zero o ≡ d
+depth_is : (o : Option Node) (d : ℕ) → node_depth o ≡ Some d → depth_or_zero o ≡ d
 depth_is None d e = absurd (none_some d e)
 depth_is (Some n) d e = some_is n.depth d e
 
 pub clearing_begun : (tree : Tree) (spot : Spot) (root : ℕ) → IsSound tree → tree.root ≡ Some root → IsClearing tree tree spot root
 clearing_begun tree spot root s e =
-    let d : depth_of (node_at tree root) ≡ Some 0 = s.placed.rooted root e in
+    let d : node_depth (node_at tree root) ≡ Some 0 = s.placed.rooted root e in
     let z : depth_or_zero (node_at tree root) ≡ 0 = depth_is (node_at tree root) 0 d in
     record { same = same_itself tree s; there = depth_there (node_at tree root) 0 d; on_way = ap (λ k. way (node_at tree) spot k tree.root) z ∙ e; above = λ k j h f. absurd (omega (arith, z)) }
 
@@ -175,7 +175,7 @@ module _ (old new : Tree) (spot : Spot) (at : ℕ) (n : Node) (side : Bool) (c :
     above = λ k j h f. as_far k j (less_or k (depth_or_zero (node_at new at)) (omega (arith, deeper))) f;
   }
     where
-      nested : depth_of (node_at new next) ≡ Some (suc n.depth)
+      nested : node_depth (node_at new next) ≡ Some (suc n.depth)
       nested = c.same.sound.placed.nested at next n side g e
 
       deeper : depth_or_zero (node_at new next) ≡ suc (depth_or_zero (node_at new at))

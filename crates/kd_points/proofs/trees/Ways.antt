@@ -4,7 +4,7 @@ use Rattle.std.proofs.Common.{sym, ◌∙◌, ap, subst, arith}
 use Rattle.gx_base.specs.declared.calls.Spot.{Spot}
 use Rattle.kd_points.specs.declared.nodes.Node.{Node}
 use Rattle.kd_points.specs.declared.nodes.Axis.{Axis}
-use Rattle.kd_points.specs.Trees.{Nodes, is_left, child, child_of, way, depth_of}
+use Rattle.kd_points.specs.Trees.{Nodes, is_left, child, child_of, way, node_depth}
 use Rattle.kd_points.proofs.states.Basics.{none_some}
 
 -- a way that has ended comes nowhere
@@ -79,9 +79,9 @@ there_still look next h key n g = still_by (next key) refl (subst (λ o. Stays o
     still_by None e s = absurd s
     still_by (Some m) e s = (m, e, s)
 
-pub depth_stays : (look next : Nodes) → AllStay look next → (key d : ℕ) → depth_of (look key) ≡ Some d → depth_of (next key) ≡ Some d
+pub depth_stays : (look next : Nodes) → AllStay look next → (key d : ℕ) → node_depth (look key) ≡ Some d → node_depth (next key) ≡ Some d
 depth_stays look next h key d e = depth_by (look key) refl e
   where
-    depth_by : (o : Option Node) → look key ≡ o → depth_of o ≡ Some d → depth_of (next key) ≡ Some d
+    depth_by : (o : Option Node) → look key ≡ o → node_depth o ≡ Some d → node_depth (next key) ≡ Some d
     depth_by None g e = absurd (none_some d e)
-    depth_by (Some n) g e = let m : (m : Node) × (next key ≡ Some m) × Amends n m = there_still look next h key n g in ap depth_of m.1 ∙ ap Some m.2.depth ∙ e
+    depth_by (Some n) g e = let m : (m : Node) × (next key ≡ Some m) × Amends n m = there_still look next h key n g in ap node_depth m.1 ∙ ap Some m.2.depth ∙ e

@@ -10,10 +10,10 @@ use Rattle.kind_tables.proofs.kinds.FlowLaws.{flow_facts, flow_tables-silent}
 use Rattle.kind_tables.proofs.kinds.DomainLaws.{domain_facts}
 
 pub facts_of : (kind : Kind) → TableFacts (kind_number kind) (tables_of kind)
-facts_of Set = false_facts 0
-facts_of Cells = false_facts 1
+facts_of Set = false_facts (kind_number Set)
+facts_of Cells = false_facts (kind_number Cells)
 facts_of Flow = flow_facts
-facts_of Points = false_facts 3
+facts_of Points = false_facts (kind_number Points)
 facts_of Domains = domain_facts
 
 pub tables_of-SuitKind : (kind : Kind) → SuitKind (kind_number kind) (tables_of kind)

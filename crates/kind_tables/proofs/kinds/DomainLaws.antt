@@ -3,6 +3,8 @@ use Rattle.std.specs.Prelude.{◌≡◌, ℤ, Bool, true, false, not, ◌&&◌, 
 use Rattle.std.proofs.Common.{sym, ◌∙◌, ap, subst, inl, inr}
 use Rattle.std.specs.Ordering.{int_eq}
 use Rattle.gx_base.specs.declared.calls.Call.{Call}
+use Rattle.gx_base.specs.declared.kinds.Kind.TheVariants.{Domains}
+use Rattle.gx_base.specs.Kinds.{kind_number}
 use Rattle.gx_base.specs.Below.{IsBelow}
 use Rattle.gx_base.proofs.CallerLemmas.{IsBelow-itself, False-IsBelow, domain_deed-foreign, with-number_at, IsSum, dom_stays, aimed-same, aimed-IsCall, domain_next-HoldsNumbers}
 use Rattle.gx_base.specs.Conditions.{holds}
@@ -210,11 +212,11 @@ readers_below_domain Sum Sum = IsBelow-itself _
 readers_below_domain Sum Nothing = False-IsBelow _
 readers_below_domain Nothing e = False-IsBelow _
 
-pub domain_facts : TableFacts 4 domain_tables
+pub domain_facts : TableFacts (kind_number Domains) domain_tables
 domain_facts = record {
-  valid = valid_from 4 domain_tables.precise domain_table;
-  keeps_to_kind = keeps 4 Nothing domain_deed domain_deed-foreign precise_domain domain_none;
+  valid = valid_from (kind_number Domains) domain_tables.precise domain_table;
+  keeps_to_kind = keeps (kind_number Domains) Nothing domain_deed domain_deed-foreign precise_domain domain_none;
   strengthened = λ first second. domain_strengthened (domain_deed first) (domain_deed second);
   readers_below = λ first second. readers_below_domain (domain_deed first) (domain_deed second);
-  readers_keep_to_kind = keeps 4 Nothing domain_deed domain_deed-foreign reader_writer_domain reader_writer_none;
+  readers_keep_to_kind = keeps (kind_number Domains) Nothing domain_deed domain_deed-foreign reader_writer_domain reader_writer_none;
 }

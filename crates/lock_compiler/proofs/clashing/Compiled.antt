@@ -1,8 +1,8 @@
 -- Calls clash under the modes of a table of simple rows exactly where their row is false.
-use Rattle.std.specs.Prelude.{◌≡◌, ℕ, ◌<◌, ◌==◌, ℤ, true, false, not, ◌&&◌, Option, Some, None, List, [], ◌∷◌, map, length, Contains, refl}
+use Rattle.std.specs.Prelude.{◌≡◌, ℕ, ◌<◌, ◌==◌, ℤ, Bool, true, false, not, ◌&&◌, Option, Some, None, List, [], ◌∷◌, map, length, Contains, refl}
 use Rattle.std.specs.Ordering.{int_eq}
 use Rattle.std.proofs.Common.{sym, ap, ◌∙◌, subst, inl, inr, arith, get_or}
-use Rattle.std.proofs.lemmas.Bool.{and_parts, and_cases, or_cases, or_left, or_right, not-false, and_left, and_right}
+use Rattle.std.proofs.lemmas.Bool.{and_parts, and_cases, or_left, or_right, not-false}
 use Rattle.std.proofs.lemmas.Bool.Decides.{Decides-int_eq}
 use Rattle.std.proofs.lemmas.List.{length-map, get_or-map, get_or_default}
 use Rattle.gx_base.specs.declared.calls.Made.{Made}
@@ -10,15 +10,16 @@ use Rattle.gx_base.specs.declared.calls.Seen.{Seen}
 use Rattle.gx_base.specs.declared.conditions.Side.TheVariants.{First, Second}
 use Rattle.gx_base.specs.declared.conditions.Term.{Term}
 use Rattle.gx_base.specs.declared.conditions.Term.TheVariants.{Const, Value, Beyond, State}
-use Rattle.gx_base.specs.Conditions.{Condition, True, False, Ne, And, holds, is_false, term_value, value_of}
+use Rattle.gx_base.specs.Conditions.{Condition, True, False, Ne, And, holds, is_false, value_of}
 use Rattle.gx_base.specs.Methods.{is_method}
 use Rattle.gx_base.specs.Tables.{Rows}
 use Rattle.cond_lattice.specs.Grades.{are_across, is_conjunction, is_simple, AreSimple}
 use Rattle.cond_lattice.specs.Simple.{stands_in}
+use Rattle.cond_lattice.proofs.CallerLemmas.{stands_true}
 use Rattle.lock_compiler.specs.LockModes.{Member, LockMode, no_mode, members_at, incompatible, locked_value, Clash}
 use Rattle.lock_compiler.specs.Compiled.{members_of, members_refuse, single_mode, compiled}
 use Rattle.lock_compiler.proofs.containing.Members.{first_in, only_in}
-use Rattle.lock_compiler.proofs.collecting.LockedNumbers.{AreValues, itself, values_stand, first_locked, second_locked, whole_in, value_in}
+use Rattle.lock_compiler.proofs.collecting.LockedNumbers.{itself, first_locked, second_locked, whole_in, value_in}
 use Rattle.lock_compiler.proofs.clashing.Needs.{ClashAt, clash_parts, clash_from}
 
 equal_true : (x y : ℤ) → x ≡ y → int_eq x y ≡ true
@@ -27,25 +28,17 @@ equal_true x y e = (Decides-int_eq x y).1 e
 equal_is : (x y : ℤ) → int_eq x y ≡ true → x ≡ y
 equal_is x y e = (Decides-int_eq x y).0 e
 
+false_by : (b : Bool) → (b ≡ true → ⊥) → b ≡ false
+false_by true never = absurd (never refl)
+false_by false never = refl
+
 -- a condition with an inequality of equal values is false
-
-ne_false : (i j : ℕ) (x y : Term) (first second : Made) (seen : Seen) → AreValues x y i j → value_of first i ≡ value_of second j → holds (Ne x y) first second seen ≡ false
-ne_false i j x y first second seen v e =
-    elim v.either [
-      | inl p ↦ (λ k. not (int_eq (term_value (p.0 k) first second seen) (term_value (p.1 k) first second seen))) ∙ ap not (equal_true (value_of first i) (value_of second j) e)
-      | inr p ↦ (λ k. not (int_eq (term_value (p.0 k) first second seen) (term_value (p.1 k) first second seen))) ∙ ap not (equal_true (value_of second j) (value_of first i) (sym e))
-    ]
-
-stands_false : (i j : ℕ) (c : Condition) (first second : Made) (seen : Seen) → is_conjunction c ≡ true → stands_in (Value First i) (Value Second j) c ≡ true → value_of first i ≡ value_of second j
+stands_false : (i j : ℕ) (c : Condition) (first second : Made) (seen : Seen) → stands_in (Value First i) (Value Second j) c ≡ true → value_of first i ≡ value_of second j
     → holds c first second seen ≡ false
-stands_false i j (Ne x y) first second seen h s e = ne_false i j x y first second seen (values_stand i j x y h s) e
-stands_false i j (And a b) first second seen h s e =
-    let p = and_parts (is_conjunction a) (is_conjunction b) h in
-    elim (or_cases (stands_in (Value First i) (Value Second j) a) (stands_in (Value First i) (Value Second j) b) s) [
-      | inl there ↦ and_left (holds a first second seen) (holds b first second seen) (stands_false i j a first second seen p.0 there e)
-      | inr there ↦ and_right (holds a first second seen) (holds b first second seen) (stands_false i j b first second seen p.1 there e)
-    ]
-stands_false i j _ first second seen h s e = absurd (cc)
+stands_false i j c first second seen s e = false_by (holds c first second seen) (λ t.
+    let apart : int_eq (value_of first i) (value_of second j) ≡ false = stands_true (Value First i) (Value Second j) c first second seen s t in
+    let never : true ≡ false = sym (equal_true (value_of first i) (value_of second j) e) ∙ apart in
+    cc)
 
 -- a conjunction that is false has an inequality of equal values
 
@@ -119,16 +112,16 @@ is_false_holds : (c : Condition) (first second : Made) (seen : Seen) → is_fals
 is_false_holds False first second seen e = refl
 is_false_holds _ first second seen e = absurd (cc)
 
-refused_false : (rows : Rows) (m n : ℕ) (p q : Option ℕ) (first second : Made) (seen : Seen) → is_simple (rows m n) ≡ true → members_refuse rows (m, p) (n, q) ≡ true
+refused_false : (rows : Rows) (m n : ℕ) (p q : Option ℕ) (first second : Made) (seen : Seen) → members_refuse rows (m, p) (n, q) ≡ true
     → locked_value first p ≡ locked_value second q → holds (rows m n) first second seen ≡ false
-refused_false rows m n None None first second seen simple r e = is_false_holds (rows m n) first second seen r
-refused_false rows m n (Some i) (Some j) first second seen simple r e = stands_false i j (rows m n) first second seen (simple_stands i j (rows m n) simple r) r e
-refused_false rows m n None (Some j) first second seen simple r e = absurd (cc)
-refused_false rows m n (Some i) None first second seen simple r e = absurd (cc)
+refused_false rows m n None None first second seen r e = is_false_holds (rows m n) first second seen r
+refused_false rows m n (Some i) (Some j) first second seen r e = stands_false i j (rows m n) first second seen r e
+refused_false rows m n None (Some j) first second seen r e = absurd (cc)
+refused_false rows m n (Some i) None first second seen r e = absurd (cc)
 
-clash_false : (kind : ℕ) (rows : Rows) (first second : Made) (seen : Seen) → is_simple (rows first.call.method second.call.method) ≡ true
+clash_false : (kind : ℕ) (rows : Rows) (first second : Made) (seen : Seen)
     → ClashAt (compiled kind rows) first second → holds (rows first.call.method second.call.method) first second seen ≡ false
-clash_false kind rows first second seen simple c =
+clash_false kind rows first second seen c =
     let all : List Member = members_of kind rows in
     let held_below : c.held < length (members_of kind rows) = omega (arith, length-map (members_of kind rows) (single_mode rows (members_of kind rows)), c.held_below) in
     let asked_below : c.asked < length (members_of kind rows) = omega (arith, length-map (members_of kind rows) (single_mode rows (members_of kind rows)), c.asked_below) in
@@ -140,7 +133,7 @@ clash_false kind rows first second seen simple c =
     (subst (λ (ms : List Member). Contains ms (second.call.method, c.asked_place)) (single_members rows (members_of kind rows) (members_of kind rows) c.asked no_member asked_below) c.asked_member) in
     let refused : members_refuse rows (first.call.method, c.held_place) (second.call.method, c.asked_place) ≡ true =
     (λ k. members_refuse rows (sym held k) (sym asked k)) ∙ sym (single_refuses rows (members_of kind rows) c.held c.asked no_member held_below asked_below) ∙ c.refused in
-    refused_false rows first.call.method second.call.method c.held_place c.asked_place first second seen simple refused c.equal_values
+    refused_false rows first.call.method second.call.method c.held_place c.asked_place first second seen refused c.equal_values
 
 -- members that are locked clash
 members_clash : (kind : ℕ) (rows : Rows) (first second : Made) (p q : Option ℕ) → Contains (members_of kind rows) (first.call.method, p) → Contains (members_of kind rows) (second.call.method, q)
@@ -180,6 +173,6 @@ pub compiled_clash : (kind : ℕ) (rows : Rows) (first second : Made) (seen : Se
     → (Clash (compiled kind rows) first second → holds (rows first.call.method second.call.method) first second seen ≡ false)
     × (holds (rows first.call.method second.call.method) first second seen ≡ false → Clash (compiled kind rows) first second)
 compiled_clash kind rows first second seen simple m n = (
-  λ c. clash_false kind rows first second seen (simple first.call.method second.call.method m n) (clash_parts (compiled kind rows) first second c),
+  λ c. clash_false kind rows first second seen (clash_parts (compiled kind rows) first second c),
   λ e. clash_from (compiled kind rows) first second (clash_by kind rows first second seen (rows first.call.method second.call.method) refl (simple first.call.method second.call.method m n) m n e),
 )

@@ -130,8 +130,8 @@ need_below modes made i (Some need) e =
 
 pub clash_parts : (modes : LockModes) (first second : Made) → Clash modes first second → ClashAt modes first second
 clash_parts modes first second c =
-    let h : IsNeeded modes first c.held = needed modes first c.held c.is_held in
-    let a : IsNeeded modes second c.asked = needed modes second c.asked c.is_asked in
+    let h : IsNeeded modes first c.held = needed modes first c.held c.held_by_first in
+    let a : IsNeeded modes second c.asked = needed modes second c.asked c.asked_by_second in
     record {
       held = h.mode;
       asked = a.mode;
@@ -154,8 +154,8 @@ pub clash_from : (modes : LockModes) (first second : Made) → ClashAt modes fir
 clash_from modes first second c = record {
   held = need_of first (c.held, c.held_place);
   asked = need_of second (c.asked, c.asked_place);
-  is_held = need_in modes first c.held c.held_place c.held_below c.held_member;
-  is_asked = need_in modes second c.asked c.asked_place c.asked_below c.asked_member;
+  held_by_first = need_in modes first c.held c.held_place c.held_below c.held_member;
+  asked_by_second = need_in modes second c.asked c.asked_place c.asked_below c.asked_member;
   equal_values = c.equal_values;
   refused = c.refused;
 }

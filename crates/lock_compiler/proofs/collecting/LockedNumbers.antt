@@ -54,8 +54,8 @@ with_condition-keeps side (And a b) xs q h = with_condition-keeps side b (with_c
 with_condition-keeps side _ xs q h = h
 
 -- the sides of an inequality of a value of the first call and one of the second
-pub record AreValues (x y : Term) (i j : ℕ) : Type 0 where
-  pub either : ((x ≡ Value First i) × (y ≡ Value Second j)) ⊎ ((x ≡ Value Second j) × (y ≡ Value First i))
+record AreValues (x y : Term) (i j : ℕ) : Type 0 where
+  either : ((x ≡ Value First i) × (y ≡ Value Second j)) ⊎ ((x ≡ Value Second j) × (y ≡ Value First i))
 
 turned : (x y : Term) (i j : ℕ) → AreValues x y i j → AreValues y x i j
 turned x y i j v = record { either = elim v.either [ inl p ↦ inr (p.1, p.0) | inr p ↦ inl (p.1, p.0) ] }
@@ -72,7 +72,7 @@ or_none : (b : Bool) → (b || false) ≡ true → b ≡ true
 or_none true e = refl
 or_none false e = e
 
-pub values_stand : (i j : ℕ) (x y : Term) → are_across x y ≡ true → same_sides (Value First i) (Value Second j) x y ≡ true → AreValues x y i j
+values_stand : (i j : ℕ) (x y : Term) → are_across x y ≡ true → same_sides (Value First i) (Value Second j) x y ≡ true → AreValues x y i j
 values_stand i j (Value First k) (Value Second l) h e = matched i j k l (or_none ((i == k) && (j == l)) e)
 values_stand i j (Value Second l) (Value First k) h e = turned (Value First k) (Value Second l) i j (matched i j k l e)
 values_stand i j (Value First k) (Value First l) h e = absurd (cc)

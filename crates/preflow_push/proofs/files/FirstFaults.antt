@@ -9,7 +9,7 @@ use Rattle.preflow_push.specs.declared.network.Arc as arcs
 use Rattle.text_lines.specs.Lines.{lines_of}
 use Rattle.text_lines.specs.Numbers.{number_of, digits_value_of}
 use Rattle.preflow_push.specs.FlowLines.{said_by}
-use Rattle.preflow_push.specs.FlowReading.{FileState, at_first, may_be_terminal, step, whole, read_to_end, then_read, read_from, flow_of}
+use Rattle.preflow_push.specs.FlowReading.{FileState, at_first, may_be_terminal, with_line, whole, read_to_end, then_read, read_from, flow_of}
 use Rattle.preflow_push.specs.Networks.{Net}
 use Rattle.preflow_push.specs.FlowFiles.{new_arc, AreFlow, CanGoOn, IsFirstBadLine}
 use Rattle.preflow_push.proofs.files.LineTests.{stand_so, go_so, free_so, eq_so, Stands}
@@ -17,7 +17,7 @@ use Rattle.preflow_push.proofs.files.LineRuns.{then_after, after, st, Good, good
 
 after_append : (xs ys : List Said) (s : FileState) → after (xs ++ ys) s ≡ then_after (after xs s) (after ys)
 after_append [] ys s = refl
-after_append (x ∷ xs) ys s = over (step x s) xs ys (λ u. after_append xs ys u)
+after_append (x ∷ xs) ys s = over (with_line x s) xs ys (λ u. after_append xs ys u)
   where
     over : (o : Option FileState) (xs ys : List Said) → ((u : FileState) → after (xs ++ ys) u ≡ then_after (after xs u) (after ys)) → then_after o (after (xs ++ ys)) ≡ then_after (then_after o (after xs)) (after ys)
     over None xs ys h = refl
@@ -37,8 +37,8 @@ reach_then s t u p q = record {
 stay : (s : FileState) → Reach s s
 stay s = record { lines = []; leads = refl }
 
-one_line : (line : List ℕ) (said : Said) (s t : FileState) → said_by line ≡ said → step said s ≡ Some t → Reach s t
-one_line line said s t e h = record { lines = line ∷ []; leads = ap (λ (x : Said). then_after (step x s) (after [])) e ∙ ap (λ (o : Option FileState). then_after o (after [])) h }
+one_line : (line : List ℕ) (said : Said) (s t : FileState) → said_by line ≡ said → with_line said s ≡ Some t → Reach s t
+one_line line said s t e h = record { lines = line ∷ []; leads = ap (λ (x : Said). then_after (with_line x s) (after [])) e ∙ ap (λ (o : Option FileState). then_after o (after [])) h }
 
 first_problem : said_by (codes "p max 2 0") ≡ Problem 2 0
 unfolding number_of digits_value_of
@@ -86,7 +86,7 @@ with_source n m (Some i) b l g = (i, stay (st n m (Some i) b l), g)
 with_source n m None b l g =
     let f = free_node n b g.enough in
     let t : may_be_terminal (Some (n, m)) None b f.id ≡ true = stand_so n m b f.id f.stands.node (free_so f.id b f.stands.free) in
-    let h : step (Source f.id) (st n m None b l) ≡ Some (st n m (Some f.id) b l) = rw t refl in (
+    let h : with_line (Source f.id) (st n m None b l) ≡ Some (st n m (Some f.id) b l) = rw t refl in (
       f.id,
       elim f.which [
         | inl e ↦ one_line (codes "n 1 s") (Source f.id) (st n m None b l) (st n m (Some f.id) b l) (source_1 ∙ ap (λ (x : ℕ). Source x) (sym e)) h
@@ -100,7 +100,7 @@ with_sink n m a (Some i) l g = (i, stay (st n m a (Some i) l), g)
 with_sink n m a None l g =
     let f = free_node n a g.enough in
     let t : may_be_terminal (Some (n, m)) None a f.id ≡ true = stand_so n m a f.id f.stands.node (free_so f.id a f.stands.free) in
-    let h : step (Sink f.id) (st n m a None l) ≡ Some (st n m a (Some f.id) l) = rw t refl in (
+    let h : with_line (Sink f.id) (st n m a None l) ≡ Some (st n m a (Some f.id) l) = rw t refl in (
       f.id,
       elim f.which [
         | inl e ↦ one_line (codes "n 1 t") (Sink f.id) (st n m a None l) (st n m a (Some f.id) l) (sink_1 ∙ ap (λ (x : ℕ). Sink x) (sym e)) h
@@ -116,7 +116,7 @@ with_arcs (suc k) n m a b l e g =
     let fewer : length l < m = omega arith in
     let t = go_so n m (length l) 1 2 0 (record { fewer = fewer; joins = record { start = record { from_one = omega arith; within = omega arith }; end = record { from_one = omega arith; within = two }; differ = λ x. absurd (omega (arith, x)); small = omega arith } }) in
     let l2 = l ++ new_arc 1 2 0 ∷ [] in
-    let h : step (Arc 1 2 0) (st n m a b l) ≡ Some (st n m a b l2) = rw t refl in
+    let h : with_line (Arc 1 2 0) (st n m a b l) ≡ Some (st n m a b l2) = rw t refl in
     let rest = with_arcs k n m a b l2 (omega (arith, length-append l (new_arc 1 2 0 ∷ []))) (good_arc n m a b l (new_arc 1 2 0) g fewer) in
     (rest.0, reach_then (st n m a b l) (st n m a b l2) (st n m a b rest.0) (one_line (codes "a 1 2 0") (Arc 1 2 0) (st n m a b l) (st n m a b l2) some_arc h) rest.1, rest.2)
 
@@ -189,7 +189,7 @@ ended_err : (o : Option Net) (k j : ℕ) → read_to_end o k ≡ Err j → (o �
 ended_err None k j h = (refl, cc)
 ended_err (Some net) k j h = absurd cc
 
-stops_step : (o : Option FileState) (x : Said) (xs : List Said) (s : FileState) (k j : ℕ) → step x s ≡ o → ((u : FileState) → read_from xs (k + 1) u ≡ Err j → Stops xs u (k + 1) j) → then_read o k (read_from xs (k + 1)) ≡ Err j → Stops (x ∷ xs) s k j
+stops_step : (o : Option FileState) (x : Said) (xs : List Said) (s : FileState) (k j : ℕ) → with_line x s ≡ o → ((u : FileState) → read_from xs (k + 1) u ≡ Err j → Stops xs u (k + 1) j) → then_read o k (read_from xs (k + 1)) ≡ Err j → Stops (x ∷ xs) s k j
 stops_step None x xs s k j e others h =
     let same : k ≡ j = cc in
     record { n = 0; place = omega arith; within = omega arith; before = (s, refl); here = λ lt. ap (λ (o : Option FileState). then_after o (after [])) e; missing = λ z. absurd (omega (arith, z)) }
@@ -209,7 +209,7 @@ stops : (xs : List Said) (k : ℕ) (s : FileState) (j : ℕ) → read_from xs k 
 stops [] k s j h =
     let e = ended_err (whole s) k j h in
     record { n = 0; place = omega (arith, e.1); within = omega arith; before = (s, refl); here = λ lt. absurd (omega (arith, lt)); missing = λ z. (s, refl, e.0) }
-stops (x ∷ xs) k s j h = stops_step (step x s) x xs s k j refl (λ u g. stops xs (k + 1) u j g) h
+stops (x ∷ xs) k s j h = stops_step (with_line x s) x xs s k j refl (λ u g. stops xs (k + 1) u j g) h
 
 -- ---- the laws of the reader's answer
 

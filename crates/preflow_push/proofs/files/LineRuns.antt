@@ -7,7 +7,7 @@ use Rattle.std.proofs.lemmas.List.{append-nil}
 use Rattle.preflow_push.specs.declared.flow_lines.Said.{Said}
 use Rattle.preflow_push.specs.declared.flow_lines.Said.TheVariants.{Nothing, Problem, Source, Sink, Arc, Wrong}
 use Rattle.preflow_push.specs.declared.network.Arc as arcs
-use Rattle.preflow_push.specs.FlowReading.{FileState, at_first, may_be_terminal, may_go, step, whole, whole_of, read_to_end, then_read, read_from}
+use Rattle.preflow_push.specs.FlowReading.{FileState, at_first, may_be_terminal, may_go, with_line, whole, whole_of, read_to_end, then_read, read_from}
 use Rattle.preflow_push.specs.Networks.{Net}
 use Rattle.preflow_push.specs.FlowFiles.{new_arc, spoken, sources, sinks, arcs_of, IsNode, IsOf, IsFlowOf}
 use Rattle.preflow_push.proofs.files.LineTests.{stand_is, stand_so, go_is, go_so, free_so, eq_so, Stands}
@@ -20,7 +20,7 @@ then_after (Some s) go_on = go_on s
 
 abbrev pub after : List Said → FileState → Option FileState
 after [] s = Some s
-after (said ∷ saids) s = then_after (step said s) (after saids)
+after (said ∷ saids) s = then_after (with_line said s) (after saids)
 
 -- a step that was taken
 went : (b : Bool) (s t : FileState) (xs : List Said) → then_after (cond b (Some s) None) (after xs) ≡ Some t → (b ≡ true) × (after xs s ≡ Some t)
@@ -35,7 +35,7 @@ whole_step (Some u) xs k t net others h = others u h
 
 pub whole_read : (xs : List Said) (k : ℕ) (s t : FileState) (net : Net) → after xs s ≡ Some t → whole t ≡ Some net → read_from xs k s ≡ Ok net
 whole_read [] k s t net h w = let e : s ≡ t = cc in ap (λ (u : FileState). read_to_end (whole u) k) e ∙ rw w refl
-whole_read (x ∷ xs) k s t net h w = whole_step (step x s) xs k t net (λ u g. whole_read xs (k + 1) u t net g w) h
+whole_read (x ∷ xs) k s t net h w = whole_step (with_line x s) xs k t net (λ u g. whole_read xs (k + 1) u t net g w) h
 
 -- the lines lead to a state with the whole network
 abbrev pub Reads : Option FileState → Net → Type 0
@@ -51,7 +51,7 @@ read_step (Some u) xs k net others h = others u h
 
 pub read_is : (xs : List Said) (k : ℕ) (s : FileState) (net : Net) → read_from xs k s ≡ Ok net → Reads (after xs s) net
 read_is [] k s net h = (s, refl, ended_ok (whole s) k net h)
-read_is (x ∷ xs) k s net h = read_step (step x s) xs k net (λ u g. read_is xs (k + 1) u net g) h
+read_is (x ∷ xs) k s net h = read_step (with_line x s) xs k net (λ u g. read_is xs (k + 1) u net g) h
 
 -- ---- what lines say that lead somewhere
 

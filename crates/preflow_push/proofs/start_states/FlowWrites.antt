@@ -24,18 +24,18 @@ use Rattle.preflow_push.specs.Starts.{set_in, with_height, with_gain, with_flow,
 use Rattle.commit_book.proofs.CallerLemmas.{in_rooms-set_object, in_rooms-object}
 use Rattle.preflow_push.proofs.moves.DischargeMoves.{room_of-lt}
 
-abbrev pub rooms_of : List FlowShard → ℕ → State
-rooms_of shards = in_rooms (map state_of shards)
+abbrev pub shard_rooms : List FlowShard → ℕ → State
+shard_rooms shards = in_rooms (map state_of shards)
 
 -- a call in one room
 pub made_in : (shards : List FlowShard) (room place : ℕ) (d new : FlowShard) (call made : Call) → room ≡ place → call ≡ made → room < length shards → state_of new ≡ next_state (state_of (slice_index_or shards room d)) call
-    → rooms_of (slice_set shards room new) ≡ put (rooms_of shards) place (next_state (rooms_of shards place) made)
+    → shard_rooms (slice_set shards room new) ≡ put (shard_rooms shards) place (next_state (shard_rooms shards place) made)
 made_in shards room place d new call made e f lt is =
     in_rooms-set_object state_of shards room new lt
-    ∙ ap (put (rooms_of shards) room) (is ∙ ap (λ (s : State). next_state s call) (sym (in_rooms-object state_of shards room d lt)))
-    ∙ (λ i. put (rooms_of shards) (e i) (next_state (rooms_of shards (e i)) (f i)))
+    ∙ ap (put (shard_rooms shards) room) (is ∙ ap (λ (s : State). next_state s call) (sym (in_rooms-object state_of shards room d lt)))
+    ∙ (λ i. put (shard_rooms shards) (e i) (next_state (shard_rooms shards (e i)) (f i)))
 
-kind_in : (shards : List FlowShard) (room : ℕ) → room < length shards → (rooms_of shards room).kind ≡ kind_number Flow
+kind_in : (shards : List FlowShard) (room : ℕ) → room < length shards → (shard_rooms shards room).kind ≡ kind_number Flow
 kind_in [] room lt = absurd (omega arith)
 kind_in (x ∷ xs) zero lt = refl
 kind_in (x ∷ xs) (suc n) lt = kind_in xs n (omega arith)
@@ -45,29 +45,29 @@ unfolding next_state
 next_on s c e = ap (λ (k : ℕ). (meaning_of k).next s c) e
 
 next_in : (shards : List FlowShard) (method : ℕ) (n x : ℤ) → length shards ≡ rooms
-    → put (rooms_of shards) (room_of n) (next_state (rooms_of shards (room_of n)) (flow_call_of method n x)) ≡ put (rooms_of shards) (room_of n) (next_by (flow_use method) (rooms_of shards (room_of n)) (flow_call_of method n x))
+    → put (shard_rooms shards) (room_of n) (next_state (shard_rooms shards (room_of n)) (flow_call_of method n x)) ≡ put (shard_rooms shards) (room_of n) (next_by (flow_use method) (shard_rooms shards (room_of n)) (flow_call_of method n x))
 next_in shards method n x e =
     let below = room_of-lt n in
     let lt : room_of n < length shards = omega arith in
-    ap (put (rooms_of shards) (room_of n)) (next_on (rooms_of shards (room_of n)) (flow_call_of method n x) (kind_in shards (room_of n) lt))
+    ap (put (shard_rooms shards) (room_of n)) (next_on (shard_rooms shards (room_of n)) (flow_call_of method n x) (kind_in shards (room_of n) lt))
 
 pub relabels : (shards : List FlowShard) (n m x y : ℤ) → length shards ≡ rooms → n ≡ m → x ≡ y
-    → put (rooms_of shards) (room_of n) (next_state (rooms_of shards (room_of n)) (flow_call_of relabel_method n x)) ≡ with_height m y (rooms_of shards)
-relabels shards n m x y len e f = next_in shards relabel_method n x len ∙ (λ i. with_height (e i) (f i) (rooms_of shards))
+    → put (shard_rooms shards) (room_of n) (next_state (shard_rooms shards (room_of n)) (flow_call_of relabel_method n x)) ≡ with_height m y (shard_rooms shards)
+relabels shards n m x y len e f = next_in shards relabel_method n x len ∙ (λ i. with_height (e i) (f i) (shard_rooms shards))
 
 pub gains : (shards : List FlowShard) (n m x y : ℤ) → length shards ≡ rooms → n ≡ m → x ≡ y
-    → put (rooms_of shards) (room_of n) (next_state (rooms_of shards (room_of n)) (flow_call_of gain_method n x)) ≡ with_gain m y (rooms_of shards)
-gains shards n m x y len e f = next_in shards gain_method n x len ∙ (λ i. with_gain (e i) (f i) (rooms_of shards))
+    → put (shard_rooms shards) (room_of n) (next_state (shard_rooms shards (room_of n)) (flow_call_of gain_method n x)) ≡ with_gain m y (shard_rooms shards)
+gains shards n m x y len e f = next_in shards gain_method n x len ∙ (λ i. with_gain (e i) (f i) (shard_rooms shards))
 
 zero_add : (x : ℤ) → FitsSigned w64 x → int_wrapping_add w64 (pos 0) x ≡ x
 zero_add x h = ap (cast_signed w64) (ap (λ (k : ℕ). k % 2 ^ 64) (let e : 0 + cast_unsigned w64 x ≡ cast_unsigned w64 x = omega arith in e) ∙ mod-eq_of_lt (below_bits x h)) ∙ to_z-of_z w64 x h
 
-pub sends : (shards : List FlowShard) (n m x y : ℤ) → length shards ≡ rooms → n ≡ m → x ≡ y → FitsSigned w64 y → flow_in (rooms_of shards) m ≡ pos 0
-    → put (rooms_of shards) (room_of n) (next_state (rooms_of shards (room_of n)) (flow_call_of send_method n x)) ≡ with_flow m y (rooms_of shards)
+pub sends : (shards : List FlowShard) (n m x y : ℤ) → length shards ≡ rooms → n ≡ m → x ≡ y → FitsSigned w64 y → flow_in (shard_rooms shards) m ≡ pos 0
+    → put (shard_rooms shards) (room_of n) (next_state (shard_rooms shards (room_of n)) (flow_call_of send_method n x)) ≡ with_flow m y (shard_rooms shards)
 sends shards n m x y len e f fits none =
     next_in shards send_method n x len
-    ∙ (λ i. set_in flow_sort (e i) (int_wrapping_add w64 (flow_in (rooms_of shards) (e i)) (f i)) (rooms_of shards))
-    ∙ ap (λ (z : ℤ). set_in flow_sort m z (rooms_of shards)) (ap (λ (z : ℤ). int_wrapping_add w64 z y) none ∙ zero_add y fits)
+    ∙ (λ i. set_in flow_sort (e i) (int_wrapping_add w64 (flow_in (shard_rooms shards) (e i)) (f i)) (shard_rooms shards))
+    ∙ ap (λ (z : ℤ). set_in flow_sort m z (shard_rooms shards)) (ap (λ (z : ℤ). int_wrapping_add w64 z y) none ∙ zero_add y fits)
 
 -- a full arc
 pub fills : (s a b c : ℕ → State) (arc : Arc) (number n x f y t z : ℤ) → a ≡ with_flow n x s → b ≡ with_gain f y a → c ≡ with_gain t z b

@@ -4,20 +4,20 @@ use Rattle.std.specs.Option.{option_map}
 use Rattle.std.proofs.Common.{sym, ◌∙◌, ap, subst}
 use Rattle.std.proofs.lemmas.List.{length-set}
 use Rattle.gx_base.specs.RoomViews.{RoomView, is_book}
-use Rattle.rooms.specs.RoomsViews.{RoomsView, is_held, holds_book, commits_entered, commits_in, nowhere, enters, entered}
+use Rattle.rooms.specs.RoomsViews.{RoomsView, is_room_held, holds_book, commits_entered, commits_in, nowhere, enters, entered}
 use Rattle.rooms.specs.HandedOut.{IsValueTold, IsHandedOut}
-use Rattle.rooms.specs.Visits.{Visits, count_in, count_of, view_of, AreKeptValues}
+use Rattle.rooms.specs.Visits.{Visits, count_in, commit_count, view_of, AreKeptValues}
 use Rattle.rooms.proofs.puts.Putting.{no_bool, numbers_equal, numbers_differ, get_other}
 
 module _ {V : Type 0} (tells : V → RoomView) (view : RoomsView V) (values : List V) (k : AreKeptValues tells view values) where
   -- a held book has as many commits as it had when it was entered
-  pub entered_commits : holds_book view ≡ true → commits_entered view ≡ count_of tells view
+  pub entered_commits : holds_book view ≡ true → commits_entered view ≡ commit_count tells view
   entered_commits h = ap commits_in (k.held view.book h) ∙ counted (view.told view.book) where
     counted : (o : Option V) → commits_in (option_map tells o) ≡ count_in tells o
     counted None = refl
     counted (Some value) = refl
 
-  module _ (room : ℕ) (value : V) (free : is_held view room ≡ false) (at : view.told room ≡ Some value) where
+  module _ (room : ℕ) (value : V) (free : is_room_held view room ≡ false) (at : view.told room ≡ Some value) where
     -- what is handed out is what the room tells
     value_handed_out : IsHandedOut tells view room value
     value_handed_out = record {
@@ -46,12 +46,12 @@ module _ {V : Type 0} (tells : V → RoomView) (view : RoomsView V) (values : Li
     unreleased : (q : ℕ) → (room == view.book) ≡ true → view.released q ≡ false
     unreleased q e = by (view.released q) refl where
       by : (b : Bool) → view.released q ≡ b → view.released q ≡ false
-      by true h = absurd (no_bool (holds_book view) (k.released q h) (subst (λ r. is_held view r ≡ false) (numbers_equal room view.book e) free))
+      by true h = absurd (no_bool (holds_book view) (k.released q h) (subst (λ r. is_room_held view r ≡ false) (numbers_equal room view.book e) free))
       by false h = h
 
     marks_by : (q : ℕ) (other : V) (b : Bool) → (room == view.book) ≡ b → view.told q ≡ Some other → is_book (tells other).origin ≡ false
-        → (tells other).mark ≤ (if (if b then nowhere else view.released) q then count_of tells view + 1 else count_of tells view)
-    marks_by q other true e h is = subst (λ (c : Bool). (tells other).mark ≤ (if c then count_of tells view + 1 else count_of tells view)) (unreleased q e) (k.marks q other h is)
+        → (tells other).mark ≤ (if (if b then nowhere else view.released) q then commit_count tells view + 1 else commit_count tells view)
+    marks_by q other true e h is = subst (λ (c : Bool). (tells other).mark ≤ (if c then commit_count tells view + 1 else commit_count tells view)) (unreleased q e) (k.marks q other h is)
     marks_by q other false e h is = k.marks q other h is
 
     released_by : (q : ℕ) (b : Bool) → (room == view.book) ≡ b → (if b then nowhere else view.released) q ≡ true → is_some (if b then Some seen else view.held view.book) ≡ true
@@ -75,12 +75,12 @@ module _ {V : Type 0} (tells : V → RoomView) (view : RoomsView V) (values : Li
 -- ---- with the moves since the rooms were made
 
 module _ {V : Type 0} (tells : V → RoomView) (before now : Visits V) (same : before ≡ now) (values : List V) (room : ℕ) (value : V) (k : AreKeptValues tells (view_of tells before) values)
-    (in_range : room ≤ (view_of tells now).book) (free : is_held (view_of tells now) room ≡ false) (is : slice_get values room ≡ Some value) where
+    (in_range : room ≤ (view_of tells now).book) (free : is_room_held (view_of tells now) room ≡ false) (is : slice_get values room ≡ Some value) where
   in_range_before : room ≤ (view_of tells before).book
   in_range_before = subst (λ visits. room ≤ (view_of tells visits).book) (sym same) in_range
 
-  free_before : is_held (view_of tells before) room ≡ false
-  free_before = subst (λ visits. is_held (view_of tells visits) room ≡ false) (sym same) free
+  free_before : is_room_held (view_of tells before) room ≡ false
+  free_before = subst (λ visits. is_room_held (view_of tells visits) room ≡ false) (sym same) free
 
   told_before : (view_of tells before).told room ≡ Some value
   told_before = k.home room free_before ∙ is

@@ -6,9 +6,9 @@ use Rattle.std.proofs.lemmas.List.{length-set}
 use Rattle.std.proofs.lemmas.Option.{same_Some}
 use Rattle.gx_base.specs.Replays.{put}
 use Rattle.gx_base.specs.RoomViews.{RoomView, is_book}
-use Rattle.rooms.specs.RoomsViews.{RoomsView, is_held, holds_book, mark_in, mark_entered, commits_entered, entries_for, nowhere, is_release, told_with, leaves, left}
+use Rattle.rooms.specs.RoomsViews.{RoomsView, is_room_held, holds_book, mark_in, mark_entered, commits_entered, entries_for, nowhere, is_release, told_with, leaves, left}
 use Rattle.rooms.specs.HandedOut.{MayStand, MayHaveMark, MayBeLeft}
-use Rattle.rooms.specs.Visits.{Visits, count_in, count_of, view_of, AreKeptValues}
+use Rattle.rooms.specs.Visits.{Visits, count_in, commit_count, view_of, AreKeptValues}
 use Rattle.rooms.proofs.puts.Putting.{no_bool, numbers_equal, numbers_differ, get_set, get_other}
 use Rattle.rooms.proofs.kept.EnteredRooms.{entered_commits}
 
@@ -28,7 +28,7 @@ both_right : (a b : Bool) → (a && b) ≡ true → b ≡ true
 both_right true b h = h
 both_right false b h = absurd (cc)
 
-module _ {V : Type 0} (tells : V → RoomView) (view : RoomsView V) (values : List V) (k : AreKeptValues tells view values) (room : ℕ) (value : V) (holds : is_held view room ≡ true) (may : MayBeLeft view room (tells value)) where
+module _ {V : Type 0} (tells : V → RoomView) (view : RoomsView V) (values : List V) (k : AreKeptValues tells view values) (room : ℕ) (value : V) (holds : is_room_held view room ≡ true) (may : MayBeLeft view room (tells value)) where
   abbrev no_view : Option RoomView
   no_view = None
 
@@ -73,48 +73,48 @@ module _ {V : Type 0} (tells : V → RoomView) (view : RoomsView V) (values : Li
   is_book_here = may.suits.book_where
 
   -- with the book, each mark is covered by its commits
-  covered_by : (marked : ℕ) (q : ℕ) (r : Bool) → view.released q ≡ r → is_book (tells value).origin ≡ true → holds_book view ≡ true → marked ≤ (if r then count_of tells view + 1 else count_of tells view) → marked ≤ length (tells value).commits
+  covered_by : (marked : ℕ) (q : ℕ) (r : Bool) → view.released q ≡ r → is_book (tells value).origin ≡ true → holds_book view ≡ true → marked ≤ (if r then commit_count tells view + 1 else commit_count tells view) → marked ≤ length (tells value).commits
   covered_by marked q true e is h m =
       let more : commits_entered view < length (tells value).commits = (may.commits is).more q e in
-      let same : commits_entered view ≡ count_of tells view = entered_commits tells view values k h in omega arith
+      let same : commits_entered view ≡ commit_count tells view = entered_commits tells view values k h in omega arith
   covered_by marked q false e is h m =
       let kept : commits_entered view ≤ length (tells value).commits = (may.commits is).kept in
-      let same : commits_entered view ≡ count_of tells view = entered_commits tells view values k h in omega arith
+      let same : commits_entered view ≡ commit_count tells view = entered_commits tells view values k h in omega arith
 
   book_marks_by : (q : ℕ) (other : V) (d : Bool) → (room == q) ≡ d → (room == view.book) ≡ true → (if d then told_with (view.told room) value else view.told q) ≡ Some other → is_book (tells other).origin ≡ false → (tells other).mark ≤ length (tells value).commits
   book_marks_by q other true e b h is = absurd (no_bool (is_book (tells value).origin) (is_book_here ∙ b) (subst (λ v. is_book (tells v).origin ≡ false) (sym (same_value other h)) is))
   book_marks_by q other false e b h is =
-      covered_by (tells other).mark q (view.released q) refl (is_book_here ∙ b) (subst (λ r. is_held view r ≡ true) (numbers_equal room view.book b) holds) (k.marks q other h is)
+      covered_by (tells other).mark q (view.released q) refl (is_book_here ∙ b) (subst (λ r. is_room_held view r ≡ true) (numbers_equal room view.book b) holds) (k.marks q other h is)
 
   -- a mark that is as it was
-  old_mark_by : (o : Option V) → view.told room ≡ o → (room == view.book) ≡ false → mark ≡ mark_in (option_map tells o) → is_some o ≡ true → mark ≤ (if view.released room then count_of tells view + 1 else count_of tells view)
+  old_mark_by : (o : Option V) → view.told room ≡ o → (room == view.book) ≡ false → mark ≡ mark_in (option_map tells o) → is_some o ≡ true → mark ≤ (if view.released room then commit_count tells view + 1 else commit_count tells view)
   old_mark_by None e b m h = absurd (cc)
   old_mark_by (Some old) e b m h =
-      subst (λ n. n ≤ (if view.released room then count_of tells view + 1 else count_of tells view)) (sym m) (k.marks room old e ((k.suits room old e).book_where ∙ b))
+      subst (λ n. n ≤ (if view.released room then commit_count tells view + 1 else commit_count tells view)) (sym m) (k.marks room old e ((k.suits room old e).book_where ∙ b))
 
-  old_mark : (room == view.book) ≡ false → mark ≡ mark_entered view room → mark ≤ (if view.released room then count_of tells view + 1 else count_of tells view)
+  old_mark : (room == view.book) ≡ false → mark ≡ mark_entered view room → mark ≤ (if view.released room then commit_count tells view + 1 else commit_count tells view)
   old_mark b m = old_mark_by (view.told room) refl b (m ∙ ap mark_in (k.held room holds)) was_told
 
-  kept_mark : (room == view.book) ≡ false → is_release view mark ≡ false → MayHaveMark view room mark → mark ≤ (if view.released room then count_of tells view + 1 else count_of tells view)
+  kept_mark : (room == view.book) ≡ false → is_release view mark ≡ false → MayHaveMark view room mark → mark ≤ (if view.released room then commit_count tells view + 1 else commit_count tells view)
   kept_mark b c (inl e) = old_mark b e
   kept_mark b c (inr e) = absurd (no_bool (is_release view mark) e c)
 
-  next_mark : is_release view mark ≡ true → mark ≤ count_of tells view + 1
+  next_mark : is_release view mark ≡ true → mark ≤ commit_count tells view + 1
   next_mark c =
       let h : holds_book view ≡ true = both_left (holds_book view) (mark == commits_entered view + 1) c in
       let n : mark ≡ commits_entered view + 1 = numbers_equal mark (commits_entered view + 1) (both_right (holds_book view) (mark == commits_entered view + 1) c) in
-      let same : commits_entered view ≡ count_of tells view = entered_commits tells view values k h in omega arith
+      let same : commits_entered view ≡ commit_count tells view = entered_commits tells view values k h in omega arith
 
   release_marks_by : (q : ℕ) (other : V) (d : Bool) → (room == q) ≡ d → is_release view mark ≡ true → (if d then told_with (view.told room) value else view.told q) ≡ Some other → is_book (tells other).origin ≡ false
-      → (tells other).mark ≤ (if (if d then true else view.released q) then count_of tells view + 1 else count_of tells view)
-  release_marks_by q other true e c h is = subst (λ v. (tells v).mark ≤ count_of tells view + 1) (same_value other h) (next_mark c)
+      → (tells other).mark ≤ (if (if d then true else view.released q) then commit_count tells view + 1 else commit_count tells view)
+  release_marks_by q other true e c h is = subst (λ v. (tells v).mark ≤ commit_count tells view + 1) (same_value other h) (next_mark c)
   release_marks_by q other false e c h is = k.marks q other h is
 
   plain_marks_by : (q : ℕ) (other : V) (d : Bool) → (room == q) ≡ d → (room == view.book) ≡ false → is_release view mark ≡ false → (if d then told_with (view.told room) value else view.told q) ≡ Some other → is_book (tells other).origin ≡ false
-      → (tells other).mark ≤ (if view.released q then count_of tells view + 1 else count_of tells view)
+      → (tells other).mark ≤ (if view.released q then commit_count tells view + 1 else commit_count tells view)
   plain_marks_by q other true e b c h is =
-      subst (λ v. (tells v).mark ≤ (if view.released q then count_of tells view + 1 else count_of tells view)) (same_value other h)
-      (subst (λ r. mark ≤ (if view.released r then count_of tells view + 1 else count_of tells view)) (numbers_equal room q e) (kept_mark b c (may.mark (is_book_here ∙ b))))
+      subst (λ v. (tells v).mark ≤ (if view.released q then commit_count tells view + 1 else commit_count tells view)) (same_value other h)
+      (subst (λ r. mark ≤ (if view.released r then commit_count tells view + 1 else commit_count tells view)) (numbers_equal room q e) (kept_mark b c (may.mark (is_book_here ∙ b))))
   plain_marks_by q other false e b c h is = k.marks q other h is
 
   marks_by : (q : ℕ) (other : V) (b c : Bool) → (room == view.book) ≡ b → is_release view mark ≡ c → put view.told room (told_with (view.told room) value) q ≡ Some other → is_book (tells other).origin ≡ false
@@ -145,10 +145,10 @@ module _ {V : Type 0} (tells : V → RoomView) (view : RoomsView V) (values : Li
 -- ---- with the moves since the rooms were made
 
 pub take_back_kept : {V : Type 0} (tells : V → RoomView) (before now after : Visits V) (values values_after : List V) (room : ℕ) (value : V) → before ≡ now → AreKeptValues tells (view_of tells before) values
-    → is_held (view_of tells now) room ≡ true → MayBeLeft (view_of tells now) room (tells value)
+    → is_room_held (view_of tells now) room ≡ true → MayBeLeft (view_of tells now) room (tells value)
     → after ≡ record before { moves = leaves room value ∷ before.moves } → values_after ≡ slice_set values room value → AreKeptValues tells (view_of tells after) values_after
 take_back_kept tells before now after values values_after room value same k held may moved put =
     subst (λ visits. AreKeptValues tells (view_of tells visits) values_after) (sym moved)
     (subst (λ vs. AreKeptValues tells (left tells (view_of tells before) room value) vs) (sym put)
     (left_kept tells (view_of tells before) values k room value
-    (subst (λ visits. is_held (view_of tells visits) room ≡ true) (sym same) held) (subst (λ visits. MayBeLeft (view_of tells visits) room (tells value)) (sym same) may)))
+    (subst (λ visits. is_room_held (view_of tells visits) room ≡ true) (sym same) held) (subst (λ visits. MayBeLeft (view_of tells visits) room (tells value)) (sym same) may)))

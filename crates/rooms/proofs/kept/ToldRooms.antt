@@ -4,7 +4,7 @@ use Rattle.std.proofs.Common.{sym, ◌∙◌, ap, inl, inr, get_or, arith}
 use Rattle.std.proofs.lemmas.Option.{slice_get_within, slice_get_cases}
 use Rattle.std.specs.Option.{option_map}
 use Rattle.gx_base.specs.RoomViews.{RoomView}
-use Rattle.rooms.specs.RoomsViews.{RoomsView, is_held}
+use Rattle.rooms.specs.RoomsViews.{RoomsView, is_room_held}
 use Rattle.rooms.specs.Visits.{AreKeptValues, AreTold}
 
 some_mapped : {A B : Type 0} (f : A → B) (o : Option A) → is_some (option_map f o) ≡ is_some o
@@ -27,11 +27,11 @@ some_within : {A : Type 0} (values : List A) (place : ℕ) → place < length va
 some_within values place h = there_or_past values place h (slice_get_cases values place).1
 
 module _ {V : Type 0} (tells : V → RoomView) (view : RoomsView V) (values : List V) (k : AreKeptValues tells view values) where
-  there_by : (room : ℕ) (b : Bool) → is_held view room ≡ b → room ≤ view.book → is_some (view.told room) ≡ true
+  there_by : (room : ℕ) (b : Bool) → is_room_held view room ≡ b → room ≤ view.book → is_some (view.told room) ≡ true
   there_by room true h below = sym (some_mapped tells (view.told room)) ∙ ap is_some (sym (k.held room h)) ∙ h
   there_by room false h below = ap is_some (k.home room h) ∙ some_within values room (let size = k.size in omega arith)
 
-  none_held : (room : ℕ) → view.book < room → (b : Bool) → is_held view room ≡ b → is_held view room ≡ false
+  none_held : (room : ℕ) → view.book < room → (b : Bool) → is_room_held view room ≡ b → is_room_held view room ≡ false
   none_held room above true h = absurd (let inside = k.in_range room h in omega arith)
   none_held room above false h = h
 
@@ -40,8 +40,8 @@ module _ {V : Type 0} (tells : V → RoomView) (view : RoomsView V) (values : Li
 
   pub are_told : AreTold tells view
   are_told = record {
-    there = λ room below. there_by room (is_held view room) refl below;
-    no_more = λ room above. k.home room (none_held room above (is_held view room) refl) ∙ none_from (slice_get values room) (none_there room above);
+    there = λ room below. there_by room (is_room_held view room) refl below;
+    no_more = λ room above. k.home room (none_held room above (is_room_held view room) refl) ∙ none_from (slice_get values room) (none_there room above);
     suits = k.suits;
     live = k.live;
   }

@@ -3,14 +3,14 @@ use Rattle.std.specs.Prelude.{◌≡◌, ℕ, ◌+◌, Bool, true, false, ◌==�
 use Rattle.std.proofs.Common.{◌∙◌, ap}
 use Rattle.gx_base.specs.Replays.{put}
 use Rattle.gx_base.specs.RoomViews.{RoomView}
-use Rattle.rooms.specs.RoomsViews.{RoomsView, is_held, holds_book, mark_in, mark_entered, commits_in, commits_entered, nowhere, visited, entered, is_release, released_with, with_value, left}
+use Rattle.rooms.specs.RoomsViews.{RoomsView, is_room_held, holds_book, mark_in, mark_entered, commits_in, commits_entered, nowhere, visited, entered, is_release, released_with, with_value, left}
 use Rattle.rooms.proofs.puts.Putting.{same_number, put_same, put_other, put_back_again}
 
 module _ {V : Type 0} (tells : V → RoomView) (view : RoomsView V) (room : ℕ) (value : V) where
-  pub held_entered : is_held (entered tells view room value) room ≡ true
+  pub held_entered : is_room_held (entered tells view room value) room ≡ true
   held_entered = ap (λ (o : Option RoomView). is_some o) (put_same view.held room (Some (tells value)))
 
-  pub held_elsewhere : (other : ℕ) → (room == other) ≡ false → is_held (entered tells view room value) other ≡ is_held view other
+  pub held_elsewhere : (other : ℕ) → (room == other) ≡ false → is_room_held (entered tells view room value) other ≡ is_room_held view other
   held_elsewhere other e = ap (λ (o : Option RoomView). is_some o) (put_other view.held room (Some (tells value)) other e)
 
   pub mark_entered_here : mark_entered (entered tells view room value) room ≡ (tells value).mark

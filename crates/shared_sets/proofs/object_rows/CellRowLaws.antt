@@ -13,7 +13,7 @@ use Rattle.number_rows.specs.declared.rows.NumberRows.{NumberRows}
 use Rattle.number_rows.specs.NumbersAsRows.{number_in, rows_onto}
 use Rattle.number_rows.proofs.CallerLemmas.{IsFree, number-rows_onto, rows_onto-insert, rows_onto-same, rows_onto-empty, KeepsRows, put_at}
 use Rattle.shared_sets.specs.declared.numbered_cells.Cells.{Cells}
-use Rattle.shared_sets.specs.CellsState.{has_cell, room_for, has_cells_room}
+use Rattle.shared_sets.specs.CellsState.{has_cell, room_in_cells, has_cells_room}
 
 -- numbers by key
 abbrev pub Numbers : Type 0
@@ -44,7 +44,7 @@ cells_with-same m n h = ap with_rows (rows_onto-same map.empty 0 m n free h)
 pub cells_with-empty : cells_with map.empty ≡ with_rows map.empty
 cells_with-empty = ap with_rows (rows_onto-empty map.empty 0)
 
-room-kept : (u : Use) (a b : Bool) → (IsTrue a → IsTrue b) → IsTrue (room_for u a) → IsTrue (room_for u b)
+room-kept : (u : Use) (a b : Bool) → (IsTrue a → IsTrue b) → IsTrue (room_in_cells u a) → IsTrue (room_in_cells u b)
 room-kept Nothing a b h t = t
 room-kept (On sort Reads) a b h t = t
 room-kept (On sort Adds) a b h t = h t

@@ -16,7 +16,7 @@ use Rattle.number_rows.specs.NumbersAsRows.{number_in}
 use Rattle.number_rows.proofs.CallerLemmas.{apart_sorts, KeepsRows, put_at}
 use Rattle.shared_sets.specs.declared.marked_set.SharedSet.{SharedSet}
 use Rattle.shared_sets.specs.SetRows.{Marks, row_if, mark_row, entries_marked, set_rows}
-use Rattle.shared_sets.specs.SetState.{has_mark, room_for, has_set_room}
+use Rattle.shared_sets.specs.SetState.{has_mark, room_in_set, has_set_room}
 
 -- the state of a set with these rows
 abbrev pub with_rows : map.FinMap row_cmp (List ℤ) → State
@@ -112,7 +112,7 @@ turned-kept : (turned a b : Bool) → (IsTrue a → IsTrue b) → IsTrue (if tur
 turned-kept true a b h t = h t
 turned-kept false a b h t = t
 
-room-kept : (d : SetDeed) (a b : Bool) (r : Reply) → (IsTrue a → IsTrue b) → IsTrue (room_for d a r) → IsTrue (room_for d b r)
+room-kept : (d : SetDeed) (a b : Bool) (r : Reply) → (IsTrue a → IsTrue b) → IsTrue (room_in_set d a r) → IsTrue (room_in_set d b r)
 room-kept Add a b r h t = turned-kept (int_eq r.p (pos 1)) a b h t
 room-kept Remove a b r h t = turned-kept (int_eq r.p (pos 1)) a b h t
 room-kept Contains a b r h t = t

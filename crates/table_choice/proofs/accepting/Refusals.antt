@@ -12,7 +12,7 @@ use Rattle.cond_text.specs.declared.faults.TextFault.TheVariants.{Syntax, Unknow
 use Rattle.cond_text.specs.TextFaults.{IsFaultTold}
 use Rattle.table_choice.specs.declared.refusals.TableRefuse.{TableRefuse}
 use Rattle.table_choice.specs.declared.refusals.TableRefuse.TheVariants.{Line, NotBelow, NoMemory}
-use Rattle.table_choice.specs.RunTables.{IsFaultyText, IsAbove, RefusesWhere, refusal_of, IsPairRefusal}
+use Rattle.table_choice.specs.RunTables.{IsFaultyText, IsAbove, RefusesWhere, table_refusal, IsPairRefusal}
 
 -- the line that is told, where it is that of the text's first fault
 line_at : {A : Type 0} (kind : Kind) (bytes : List ℕ) (told line : ℕ) (fault : Fault) → IsFirstFault (kind ∷ []) bytes told fault → (IsFaultyText kind bytes line → told ≡ line)
@@ -27,7 +27,7 @@ TellsOf refused line fault = IsFaultTold (λ k f. (k ≡ line) × (f ≡ fault))
 
 -- a refusal of the reader, told by its line
 pub line_told : {A : Type 0} (kind : Kind) (bytes : List ℕ) (refused : TextFault) (line : ℕ) → IsFaultTold (IsFirstFault (kind ∷ []) bytes) refused → ((l : ℕ) (f : Fault) → IsFirstFault (kind ∷ []) bytes l f → TellsOf refused l f)
-    → RefusesWhere {A = A} (IsFaultyText kind bytes line) (Line line) (Err (refusal_of refused))
+    → RefusesWhere {A = A} (IsFaultyText kind bytes line) (Line line) (Err (table_refusal refused))
 line_told kind bytes (Syntax k) line told tells = line_at kind bytes k line syntax.Syntax told (λ m. (tells line m.fault m.is_first).0)
 line_told kind bytes (UnknownMethod k) line told tells = line_at kind bytes k line syntax.UnknownMethod told (λ m. (tells line m.fault m.is_first).0)
 line_told kind bytes (UnknownName k) line told tells = line_at kind bytes k line syntax.UnknownName told (λ m. (tells line m.fault m.is_first).0)

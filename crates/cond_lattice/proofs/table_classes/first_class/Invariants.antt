@@ -1,6 +1,6 @@
 use Rattle.std.proofs.Common.{◌≡◌, ◌-◌, drop, map}
 use Rattle.gx_base.specs.Kinds.{kind_number}
-use Rattle.gx_base.specs.Methods.{methods_of}
+use Rattle.gx_base.specs.Methods.{most_methods, methods_of}
 use Rattle.gx_base.specs.TableRows.{row_of}
 use Rattle.cond_lattice.specs.Grades.{grade_of, greater, greatest, first_grade}
 use Rattle.cond_lattice.proofs.table_classes.first_class.Given as goal
@@ -12,4 +12,4 @@ invariant-loop-second l =
     ≡ first_grade (kind_number l.kind) (row_of l.table) l.first
 
 abbrev pub decreases-loop-second : goal.decreases-loop-second
-decreases-loop-second l = 8 - l.second_place
+decreases-loop-second l = most_methods - l.second_place

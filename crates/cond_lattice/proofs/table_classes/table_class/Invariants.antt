@@ -1,6 +1,6 @@
 use Rattle.std.proofs.Common.{◌≡◌, ◌-◌, drop, map}
 use Rattle.gx_base.specs.Kinds.{kind_number}
-use Rattle.gx_base.specs.Methods.{methods_of}
+use Rattle.gx_base.specs.Methods.{most_methods, methods_of}
 use Rattle.gx_base.specs.TableRows.{row_of}
 use Rattle.cond_lattice.specs.Grades.{greater, greatest, first_grade, table_grade}
 use Rattle.cond_lattice.proofs.table_classes.table_class.Given as goal
@@ -12,4 +12,4 @@ invariant-loop-first l =
     ≡ table_grade (kind_number l.kind) (row_of l.table)
 
 abbrev pub decreases-loop-first : goal.decreases-loop-first
-decreases-loop-first l = 8 - l.place
+decreases-loop-first l = most_methods - l.place

@@ -1,7 +1,7 @@
 use Rattle.std.proofs.Common.{◌≡◌, ◌++◌, ◌-◌, drop, string_bytes}
 use Rattle.std.specs.List.{flat_map}
 use Rattle.gx_base.specs.Kinds.{kind_number}
-use Rattle.gx_base.specs.Methods.{methods_of}
+use Rattle.gx_base.specs.Methods.{most_methods, methods_of}
 use Rattle.gx_base.specs.TableRows.{row_of}
 use Rattle.cond_syntax.specs.Printing.{row_line, first_lines}
 use Rattle.cond_print.proofs.tables.put_rows_of.Given as goal
@@ -13,4 +13,4 @@ invariant-loop-second l =
     ≡ string_bytes l.fn.text ++ first_lines l.kind (row_of l.table) l.first
 
 abbrev pub decreases-loop-second : goal.decreases-loop-second
-decreases-loop-second l = 8 - l.place
+decreases-loop-second l = most_methods - l.place

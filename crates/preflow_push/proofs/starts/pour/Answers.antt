@@ -2,7 +2,7 @@ use Rattle.std.proofs.Common.{◌≡◌, ◌+◌, pos, ◌+ℤ◌, get_or, refl,
 use Rattle.std.proofs.lemmas.Int.{ints}
 use Rattle.std.specs.Int.{w64}
 use Rattle.preflow_push.specs.declared.network.Arc.{Arc}
-use Rattle.preflow_push.proofs.start_states.FlowWrites.{rooms_of}
+use Rattle.preflow_push.proofs.start_states.FlowWrites.{shard_rooms}
 use Rattle.preflow_push.proofs.start_states.FlowPours.{poured_more, no_flow_more}
 use Rattle.preflow_push.proofs.starts.pour.Goals as goal
 
@@ -19,6 +19,6 @@ loop-at-preserved c =
     record {
       poured_so_far = poured_more _ _ c.loop-at.at c.args.arcs.now _ _ _ _ number c.loop-at-test.true c.loop-at.invariant.poured_so_far c.in_ok-fill_from.ensures;
       no_flow = λ m above.
-          no_flow_more (to_z w64 (of_z w64 c.args.source)) _ c.loop-at.at m (get_or c.args.arcs.now c.loop-at.at no_arc) (rooms_of c.loop-at.shards) (rooms_of c.fill_from.new.shards)
+          no_flow_more (to_z w64 (of_z w64 c.args.source)) _ c.loop-at.at m (get_or c.args.arcs.now c.loop-at.at no_arc) (shard_rooms c.loop-at.shards) (shard_rooms c.fill_from.new.shards)
           number above (c.loop-at.invariant.no_flow m (omega arith)) c.in_ok-fill_from.ensures;
     }

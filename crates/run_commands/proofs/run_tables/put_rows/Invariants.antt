@@ -1,7 +1,7 @@
 use Rattle.std.proofs.Common.{◌≡◌, ◌==◌, ℕ, ◌+◌, ◌-◌, ◌<◌, true, false, Some}
 use Rattle.std.specs.FinMap as map
 use Rattle.gx_base.specs.Kinds.{kind_number}
-use Rattle.gx_base.specs.Methods.{first_method, is_method}
+use Rattle.gx_base.specs.Methods.{most_methods, first_method, is_method}
 use Rattle.gx_base.specs.TableRows.{row_of}
 use Rattle.run_commands.proofs.run_tables.put_rows.Given as goal
 
@@ -13,4 +13,4 @@ invariant-seconds l =
     × ((m n : ℕ) → (m == l.first) ≡ false → map.get l.table (m, n) ≡ map.get l.fn.table (m, n))
 
 abbrev pub decreases-seconds : goal.decreases-seconds
-decreases-seconds l = 8 - l.place
+decreases-seconds l = most_methods - l.place

@@ -1,7 +1,7 @@
 use Rattle.std.proofs.Common.{◌≡◌, ℕ, ◌+◌, ◌-◌, ◌<◌, ◌&&◌, true, false, Some, None}
 use Rattle.std.specs.FinMap as map
 use Rattle.gx_base.specs.Kinds.{kind_number}
-use Rattle.gx_base.specs.Methods.{first_method, is_method}
+use Rattle.gx_base.specs.Methods.{most_methods, first_method, is_method}
 use Rattle.gx_base.specs.TableRows.{row_of}
 use Rattle.run_commands.proofs.run_tables.whole_table.Given as goal
 
@@ -12,4 +12,4 @@ invariant-firsts l =
     × ((m n : ℕ) → (is_method (kind_number l.kind) m && is_method (kind_number l.kind) n) ≡ false → map.get l.table (m, n) ≡ None)
 
 abbrev pub decreases-firsts : goal.decreases-firsts
-decreases-firsts l = 8 - l.place
+decreases-firsts l = most_methods - l.place

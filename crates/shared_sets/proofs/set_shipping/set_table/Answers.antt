@@ -3,25 +3,26 @@ use Rattle.gx_base.specs.Methods.{first_method}
 use Rattle.gx_base.specs.ShippedTables.{rows_chosen}
 use Rattle.gx_base.specs.TableRows.{row_of}
 use Rattle.gx_base.specs.declared.kinds.Kind.TheVariants.{Set}
+use Rattle.gx_base.specs.Kinds.{kind_number}
 use Rattle.kind_tables.proofs.CallerLemmas.{methods_end, filled_to, filled-none, filled-more, filled-row, filled-all}
 use Rattle.shared_sets.specs.SetTables.{set_tables}
 use Rattle.shared_sets.specs.SuitedTables.{set_tables-SuitKind}
 use Rattle.shared_sets.proofs.set_shipping.set_table.Goals as goal
 
 pub loop-first-init : goal.loop-first-init
-loop-first-init c = λ m n. ap (λ t. row_of t m n) c.blank-table.ensures ∙ filled-none 0 (rows_chosen set_tables c.args.choice) m n
+loop-first-init c = λ m n. ap (λ t. row_of t m n) c.blank-table.ensures ∙ filled-none (kind_number Set) (rows_chosen set_tables c.args.choice) m n
 
 pub loop-second-preserved : goal.loop-second-preserved
 loop-second-preserved c = λ m n.
     ap (λ t. row_of t m n) c.in_ok-put.ensures.ok
-    ∙ filled-more 0 (rows_chosen set_tables c.args.choice) c.loop-second.table c.loop-first.first c.loop-second.second _ (omega arith) (omega arith) (omega arith) c.in_ok-cond.ensures c.loop-second.invariant m n
+    ∙ filled-more (kind_number Set) (rows_chosen set_tables c.args.choice) c.loop-second.table c.loop-first.first c.loop-second.second _ (omega arith) (omega arith) (omega arith) c.in_ok-cond.ensures c.loop-second.invariant m n
 
 pub loop-first-preserved : goal.loop-first-preserved
 loop-first-preserved c = λ m n.
-    let e : c.loop-second.second ≡ methods_end 0 = omega arith in
-    c.loop-second.invariant m n ∙ ap (λ s. filled_to 0 (rows_chosen set_tables c.args.choice) c.loop-first.first s m n) e ∙ filled-row 0 (rows_chosen set_tables c.args.choice) c.loop-first.first m n
+    let e : c.loop-second.second ≡ methods_end (kind_number Set) = omega arith in
+    c.loop-second.invariant m n ∙ ap (λ s. filled_to (kind_number Set) (rows_chosen set_tables c.args.choice) c.loop-first.first s m n) e ∙ filled-row (kind_number Set) (rows_chosen set_tables c.args.choice) c.loop-first.first m n
 
 pub returns : goal.returns
 returns c = λ m n.
-    let e : c.loop-first.first ≡ methods_end 0 = omega arith in
-    c.loop-first.invariant m n ∙ ap (λ f. filled_to 0 (rows_chosen set_tables c.args.choice) f (first_method 0) m n) e ∙ filled-all 0 (rows_chosen set_tables c.args.choice) ((set_tables-SuitKind Set refl).keeps_to_kind c.args.choice) m n
+    let e : c.loop-first.first ≡ methods_end (kind_number Set) = omega arith in
+    c.loop-first.invariant m n ∙ ap (λ f. filled_to (kind_number Set) (rows_chosen set_tables c.args.choice) f (first_method (kind_number Set)) m n) e ∙ filled-all (kind_number Set) (rows_chosen set_tables c.args.choice) ((set_tables-SuitKind Set refl).keeps_to_kind c.args.choice) m n

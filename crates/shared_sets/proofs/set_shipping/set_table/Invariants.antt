@@ -2,12 +2,14 @@ use Rattle.std.proofs.Common.{◌≡◌, ℕ}
 use Rattle.gx_base.specs.Methods.{first_method}
 use Rattle.gx_base.specs.ShippedTables.{rows_chosen}
 use Rattle.gx_base.specs.TableRows.{row_of}
+use Rattle.gx_base.specs.declared.kinds.Kind.TheVariants.{Set}
+use Rattle.gx_base.specs.Kinds.{kind_number}
 use Rattle.kind_tables.proofs.CallerLemmas.{filled_to}
 use Rattle.shared_sets.specs.SetTables.{set_tables}
 use Rattle.shared_sets.proofs.set_shipping.set_table.Given as goal
 
 abbrev pub invariant-loop-first : goal.invariant-loop-first
-invariant-loop-first l = (m n : ℕ) → row_of l.table m n ≡ filled_to 0 (rows_chosen set_tables l.choice) l.first (first_method 0) m n
+invariant-loop-first l = (m n : ℕ) → row_of l.table m n ≡ filled_to (kind_number Set) (rows_chosen set_tables l.choice) l.first (first_method (kind_number Set)) m n
 
 abbrev pub invariant-loop-second : goal.invariant-loop-second
-invariant-loop-second l = (m n : ℕ) → row_of l.table m n ≡ filled_to 0 (rows_chosen set_tables l.choice) l.first l.second m n
+invariant-loop-second l = (m n : ℕ) → row_of l.table m n ≡ filled_to (kind_number Set) (rows_chosen set_tables l.choice) l.first l.second m n

@@ -11,5 +11,5 @@ returns-in-Ok-clause-line c line = line_read c.args.kind c.args.bytes.now line c
 
 pub returns-in-Err-clause-line : goal.returns-in-Err-clause-line
 returns-in-Err-clause-line c line =
-    subst (λ (refused : TableRefuse). RefusesWhere {A = Table} (IsFaultyText c.args.kind c.args.bytes.now line) (Line line) (Err refused)) (sym c.refusal_of.ensures)
+    subst (λ (refused : TableRefuse). RefusesWhere {A = Table} (IsFaultyText c.args.kind c.args.bytes.now line) (Line line) (Err refused)) (sym c.table_refusal.ensures)
     (line_told c.args.kind c.args.bytes.now c.in-Err.fault line c.in-Err.ensures.fault c.in-Err.ensures.only_fault)

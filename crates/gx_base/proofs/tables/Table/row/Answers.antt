@@ -28,7 +28,7 @@ returns c =
     ∙ elim c.if-number-len.branch [
       | then-number-len+in_default w ↦
           let below : c.bucket_at-number.result < length c.self.inside.buckets.items = omega (arith, w.if-number-len.true, c.len.ensures) in
-          let missed : position_from (is_row_of c.args.first c.args.second) 0 w.index-rows.result.now.items ≡ None = rw w.deref.ensures.value at (sym w.place_of.ensures ∙ w.in_default.is) in
+          let missed : position_from (is_row_of c.args.first c.args.second) 0 w.index-rows.result.now.items ≡ None = rw w.deref.ensures.value at (sym w.pair_index.ensures ∙ w.in_default.is) in
           sym (row_of-missed c.self.inside.buckets.items c.args.first c.args.second c.bucket_at-number.result w.index-rows.result.now c.self.invariant.0 c.bucket_at-number.ensures below w.index-rows.ensures missed)
       | else-number-len w ↦
           let past : length c.self.inside.buckets.items ≤ c.bucket_at-number.result = omega (arith, w.if-number-len.false, c.len.ensures) in

@@ -1,7 +1,7 @@
 use Rattle.std.proofs.Common.{◌≡◌, ◌++◌, ◌-◌, drop}
 use Rattle.std.specs.List.{flat_map}
 use Rattle.gx_base.specs.Kinds.{kind_number}
-use Rattle.gx_base.specs.Methods.{methods_of}
+use Rattle.gx_base.specs.Methods.{most_methods, methods_of}
 use Rattle.gx_base.specs.TableRows.{row_of}
 use Rattle.run_commands.specs.commands.Classify.{class_lines, rows_text}
 use Rattle.run_commands.proofs.commands.classify.row_lines.Given as goal
@@ -13,4 +13,4 @@ invariant-loop-first l =
     ≡ rows_text l.kind (row_of l.table)
 
 abbrev pub decreases-loop-first : goal.decreases-loop-first
-decreases-loop-first l = 8 - l.place
+decreases-loop-first l = most_methods - l.place

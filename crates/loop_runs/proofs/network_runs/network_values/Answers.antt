@@ -5,7 +5,7 @@ use Rattle.flow_graph.specs.FlowState.{state_of}
 use Rattle.preflow_push.specs.Networks.{view}
 use Rattle.loop_runs.specs.NetworkLoop.{network_loop, shard_tables}
 use Rattle.loop_runs.proofs.LoopRooms.{values_made}
-use Rattle.loop_runs.proofs.network_runs.values_of.Goals as goal
+use Rattle.loop_runs.proofs.network_runs.network_values.Goals as goal
 
 pub returns : goal.returns
 returns c =

@@ -4,7 +4,7 @@ use Rattle.commit_book.specs.BookViews.{new_book}
 use Rattle.clustering.specs.CloudState.{state_of}
 use Rattle.loop_runs.specs.PointsLoop.{cluster_loop, tables_in}
 use Rattle.loop_runs.proofs.LoopRooms.{values_made}
-use Rattle.loop_runs.proofs.cloud_runs.values_of.Goals as goal
+use Rattle.loop_runs.proofs.cloud_runs.cloud_values.Goals as goal
 
 pub returns : goal.returns
 returns c =
