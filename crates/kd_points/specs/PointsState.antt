@@ -73,7 +73,7 @@ dead_nodes_of points = dead_nodes points.tree
 abbrev pub IsTrim : KdPoints → Type 0
 IsTrim points = IsLeanTree points.tree
 
--- no point stands deeper in the tree than halving the points takes
+-- no node stands deeper in the tree than halving the nodes takes
 abbrev pub IsBalanced : KdPoints → Type 0
 IsBalanced points = IsBalancedTree points.tree
 

@@ -5,7 +5,6 @@ use Rattle.std.specs.Ordering.{int_eq}
 use Rattle.gx_base.specs.declared.calls.Spot.{Spot}
 use Rattle.gx_base.specs.PointKind.{spot_at}
 use Rattle.slab.specs.Slab.{slab_len}
-use Rattle.kd_points.specs.declared.rebuild.TheConstants.{LEAST_REBUILT}
 use Rattle.kd_points.specs.declared.nodes.Seat.{Seat}
 use Rattle.kd_points.specs.declared.tree.Tree.{Tree}
 use Rattle.kd_points.specs.Trees.{IsSeat, node_depth}
@@ -56,6 +55,10 @@ pub record IsRebuilt (old new : Tree) : Type 0 where
   pub none_grown : new.grown ≡ 0
   pub balanced : IsBalancedTree new
 
+-- a tree of fewer nodes isn't rebuilt
+abbrev pub least_rebuilt : ℕ
+least_rebuilt = 64
+
 -- the tree has fewer nodes than are rebuilt, or at most half of its nodes are dead, and at most half were put in one by one
 abbrev pub IsLeanTree : Tree → Type 0
-IsLeanTree tree = LEAST_REBUILT ≤ slab_len tree.nodes → (2 * dead_nodes tree ≤ slab_len tree.nodes) × (2 * tree.grown ≤ slab_len tree.nodes)
+IsLeanTree tree = least_rebuilt ≤ slab_len tree.nodes → (2 * dead_nodes tree ≤ slab_len tree.nodes) × (2 * tree.grown ≤ slab_len tree.nodes)

@@ -1,5 +1,5 @@
 -- What a tree of points stands for.
-use Rattle.std.specs.Prelude.{◌≡◌, ℕ, ◌+◌, ◌-◌, ℤ, Bool, true, false, cond, ◌&&◌, ◌||◌, Option, Some, None, List, [], ◌∷◌, if◌then◌else◌, ◌⊎◌}
+use Rattle.std.specs.Prelude.{◌≡◌, ℕ, ◌+◌, ◌-◌, ◌^◌, min, ℤ, Bool, true, false, cond, ◌&&◌, ◌||◌, Option, Some, None, List, [], ◌∷◌, if◌then◌else◌, ◌⊎◌}
 use Rattle.std.specs.FinMap as map
 use Rattle.std.specs.Map.{lookup}
 use Rattle.std.specs.Ordering.{int_eq, is_lt}
@@ -81,6 +81,10 @@ pub record IsAlike (old new : Tree) : Type 0 where
   pub root : new.root ≡ old.root
   pub live : new.live ≡ old.live
 
+-- one node more was put in by itself; the count stays at the greatest number of 64 bits
+abbrev pub CountsOne : Tree → Tree → Type 0
+CountsOne old new = new.grown ≡ min (old.grown + 1) (2 ^ 64 - 1)
+
 -- a new node has this key, and its id stands for it
 pub record IsPlanted (old new : Tree) (key : ℕ) (node : Node) : Type 0 where
   pub vacant : node_at old key ≡ None
@@ -89,6 +93,7 @@ pub record IsPlanted (old new : Tree) (key : ℕ) (node : Node) : Type 0 where
   pub keys : (id : ℤ) → key_of new id ≡ cond (int_eq node.spot.id id) (Some key) (key_of old id)
   pub root : new.root ≡ old.root
   pub live : new.live ≡ old.live
+  pub grown : CountsOne old new
 
 -- a spot that belongs on another free side still belongs there
 abbrev pub SeatsStay : Tree → Tree → Seat → Type 0
@@ -108,6 +113,7 @@ pub record HangsBelow (old new : Tree) (seat : Seat) (spot : Spot) (axis : Axis)
   pub depths_stay : (j d : ℕ) → node_depth (node_at old j) ≡ Some d → node_depth (node_at new j) ≡ Some d
   pub size : slab_len new.nodes ≡ slab_len old.nodes + 1
   pub none_bare : NoneBare old → NoneBare new
+  pub grown : CountsOne old new
 
 -- the tree has no nodes
 pub record IsBlank (tree : Tree) : Type 0 where

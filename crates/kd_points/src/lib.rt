@@ -4,8 +4,8 @@
 //! A point that was taken out keeps its node, which is dead, until `tidy`. So a call is undone and done again by a
 //! mark, without memory. A search keeps the parts of the tree that it has still to visit in a list of its own, so
 //! that a deep tree needs no deep recursion; it leaves a part out only where the plane before it is farther than
-//! the nearest point so far. `specs/PointTables.antt` has the tables of conditions that points ship, and `laws`
-//! says that these are valid.
+//! the nearest point so far, or where all in it was taken out. `specs/PointTables.antt` has the tables of conditions
+//! that points ship, and `laws` says that these are valid.
 #![tactic(auto)]
 
 mod bareness;

@@ -124,6 +124,7 @@ module _ (old mid new : Tree) (spot : Spot) (axis : Axis) (key at : ℕ) (n : No
     depths_stay = depth_stays (node_at old) (node_at new) (grown_stays (node_at old) (node_at new) key at n leaf left p.vacant stood open_side here u.changed others);
     size = size ∙ p.size;
     none_bare = λ b j m g. by_bare b j m g (same_key j key) (same_key j at);
+    grown = ap (λ (t : Tree). t.grown) rest ∙ p.grown;
   }
     where
       by_bare : NoneBare old → (j : ℕ) (m : Node) → node_at new j ≡ Some m → (j ≡ key) ⊎ (j ≡ key → ⊥) → (j ≡ at) ⊎ (j ≡ at → ⊥) → m.bare ≡ false
@@ -157,6 +158,7 @@ rooted_below old mid spot axis key none p = record {
   depths_stay = λ j d e. kept j d e (same_key j key);
   size = p.size;
   none_bare = λ b j m g. by_bare b j m g (same_key j key);
+  grown = p.grown;
 }
   where
     by_bare : NoneBare old → (j : ℕ) (m : Node) → node_at mid j ≡ Some m → (j ≡ key) ⊎ (j ≡ key → ⊥) → m.bare ≡ false
@@ -173,7 +175,7 @@ rooted_below old mid spot axis key none p = record {
 
 -- the count of points doesn't matter
 pub below_counted : (old new : Tree) (seat : Seat) (spot : Spot) (axis : Axis) (key : ℕ) → HangsBelow old new seat spot axis key → HangsBelow old (record new { live = new.live + 1 }) seat spot axis key
-below_counted old new seat spot axis key b = record { vacant = b.vacant; below = b.below; beside = b.beside; deep = b.deep; other_depths = b.other_depths; depths_stay = b.depths_stay; size = b.size; none_bare = b.none_bare }
+below_counted old new seat spot axis key b = record { vacant = b.vacant; below = b.below; beside = b.beside; deep = b.deep; other_depths = b.other_depths; depths_stay = b.depths_stay; size = b.size; none_bare = b.none_bare; grown = b.grown }
 
 -- a new node is live, and one that was dead may have become so
 pub no_more_dead : (old new : Tree) → slab_len new.nodes ≤ slab_len old.nodes + 1 → new.live ≡ old.live → dead_nodes (record new { live = new.live + 1 }) ≤ dead_nodes old
