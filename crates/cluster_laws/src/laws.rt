@@ -23,8 +23,8 @@ pub fn keys_fall_along_chains()
     ensures { (spots : List Spot) (commits : List WholeCommit) (ended : Ended) → IsRunOn spots commits ended → KeysFallInEach commits }
 {}
 
-/// The keys of the pairs along a chain fall, so a chain ends at two points that are each other's nearest. Wherever a run
-/// on the points of a file has come to, the bound on the calls of `nearest` isn't what would end a body there.
+/// Wherever a run on the points of a file has come to, the bound on the calls of `nearest` isn't what would end a body
+/// there: its chain ends at two points that are each other's nearest.
 pub fn bodies_end_by_themselves()
     ensures { (bytes : List ℕ) (spots : List Spot) (commits : List WholeCommit) (ended : Ended) → IsReadable bytes spots → IsRunOn spots commits ended → (item : Item) → IsUnbounded (length spots) item ended.states }
 {}

@@ -8,4 +8,5 @@ pub mod NearestPoints
 pub mod PointValidity
 pub mod TreePlaces
 pub mod PointsState
+pub mod PointLists
 pub mod SuitedTables

@@ -47,6 +47,15 @@ pub record IsLow (old new : Tree) (depth count : ℕ) : Type 0 where
 abbrev pub IsBalancedTree : Tree → Type 0
 IsBalancedTree tree = (j d : ℕ) → node_depth (node_at tree j) ≡ Some d → 2 ^ d ≤ slab_len tree.nodes
 
+-- the tree has these points, and no dead nodes; no node counts as put in by itself, and none stands deep
+pub record IsMadeOf (spots : List Spot) (tree : Tree) : Type 0 where
+  pub sound : IsSound tree
+  pub none_else : (r : Spot) → IsPointOf tree r → Contains spots r
+  pub all : (r : Spot) → Contains spots r → HasPoint tree r.id
+  pub none_dead : dead_nodes tree ≡ 0
+  pub none_grown : tree.grown ≡ 0
+  pub balanced : IsBalancedTree tree
+
 -- the new tree has the same points, and no dead nodes; no node counts as put in by itself, and none stands deep
 pub record IsRebuilt (old new : Tree) : Type 0 where
   pub sound : IsSound new

@@ -30,7 +30,7 @@ abbrev pub child : Node → Bool → Option ℕ
 child n left = if left then n.left else n.right
 
 -- a new node
-abbrev pub leaf_of : Axis → Spot → ℕ → Option ℕ → Node
+abbrev pub leaf_of : Axis → Spot → ℕ → ℕ → Node
 leaf_of axis spot depth up = record { spot = spot; live = true; bare = false; axis = axis; depth = depth; up = up; left = None; right = None }
 
 -- the node with a child on a side

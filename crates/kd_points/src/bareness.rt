@@ -66,7 +66,7 @@ impl Tree {
             return None;
         }
         self.note_bare(key, node, true);
-        node.up
+        Some(node.up)
     }
 
     /// Notes where nothing is live any more, from a node that has died upwards.

@@ -127,7 +127,7 @@ impl Tree {
         let parent = self.node_in(at);
         let nodes = self.nodes.len();
         prove!(parent.depth < nodes);
-        let key = self.plant(leaf(axis, spot, parent.depth + 1, Some(at)))?;
+        let key = self.plant(leaf(axis, spot, parent.depth + 1, at))?;
         self.rewrite(at, link(parent, left, key));
         self.count_one();
         Ok(key)
@@ -146,7 +146,7 @@ impl Tree {
         ensures err { OnErr result (tree_state self.new ≡ tree_state self.old) }
         ensures kept { KeepsNodes self.old self.new }
     {
-        let key = self.plant(leaf(axis, spot, 0, None))?;
+        let key = self.plant(leaf(axis, spot, 0, 0))?;
         self.root = Some(key);
         self.count_one();
         Ok(key)

@@ -9,6 +9,7 @@
 #![tactic(auto)]
 
 mod bareness;
+mod choosing;
 mod growth;
 pub mod laws;
 mod nodes;

@@ -12,7 +12,7 @@ pub enum Axis {
 }
 
 /// A node of the tree with its point. One that isn't live was taken out. Under one that is bare nothing is live, so a
-/// search passes it by; which nodes are bare, and which node is above one, matters for speed alone.
+/// search passes it by; which nodes are bare, and which node is above one, matters for speed alone. Above the root is any.
 #[derive(Clone, Copy, Drop)]
 pub struct Node {
     pub spot: Spot,
@@ -20,7 +20,7 @@ pub struct Node {
     pub bare: bool,
     pub axis: Axis,
     pub depth: usize,
-    pub up: Option<usize>,
+    pub up: usize,
     pub left: Option<usize>,
     pub right: Option<usize>,
 }
@@ -100,7 +100,7 @@ pub fn is_same(p: Spot, q: Spot) -> bool
 }
 
 /// A node without children.
-pub fn leaf(axis: Axis, spot: Spot, depth: usize, up: Option<usize>) -> Node
+pub fn leaf(axis: Axis, spot: Spot, depth: usize, up: usize) -> Node
     ensures { result ≡ trees.leaf_of axis spot depth up }
 {
     Node {

@@ -3,8 +3,9 @@ ghost use Rattle.std.specs.FinMap as map;
 ghost use Rattle.std.proofs.Props.{props};
 ghost use Rattle.kd_points.specs.TreeStates.{IsSound};
 
+use crate::choosing::chosen_points;
 use crate::point_calls::{
-    add_call, at_reply, is_addable, is_at, nearest_reply, spot_of_call, yes_or_no,
+    at_reply, is_addable, is_at, nearest_reply, spot_of_call, yes_or_no,
 };
 use crate::point_methods::{PointDeed, deed_of};
 use crate::point_shipping::point_table;
@@ -46,19 +47,18 @@ impl KdPoints {
         }
     }
 
-    /// The points of a list, added in order. The tree is made anew as it grows, so that points in a row make no deep one.
+    /// The points of a list, added in order, in a balanced tree.
     pub fn with_points(alloc: Global, spots: &[Spot]) -> Result<KdPoints, NoMemory>
         ensures state { IfOk result (λ points. points_state points ≡ added_points spots.now) }
         ensures looked { IfOk result (λ points. distances_taken points ≡ 0) }
         ensures balanced { IfOk result IsBalanced }
     {
-        let mut points = KdPoints::new(alloc);
-        for spot in spots {
-            points.apply(add_call(*spot))?;
-            points.tidy()?;
-        }
-        points.rebuild()?;
-        Ok(points)
+        let mut points = chosen_points(alloc, spots)?;
+        Ok(KdPoints {
+            tree: Tree::of_points(alloc, &mut points)?,
+            looked: 0,
+            alloc,
+        })
     }
 
     /// Makes the tree anew, of the points that there are.

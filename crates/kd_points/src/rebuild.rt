@@ -4,7 +4,7 @@ ghost use Rattle.gx_base.specs.declared.calls.Spot.{Spot};
 ghost use Rattle.slab.specs.Slab.{slab_len};
 ghost use Rattle.kd_points.specs.Trees.{is_found, seat_depth};
 ghost use Rattle.kd_points.specs.TreeStates.{node_at, tree_state, dead_nodes, IsSound, NoneBare, SeatsStay};
-ghost use Rattle.kd_points.specs.Rebuilding.{IsPointOf, HaveOwnIds, AreNew, Gathers, IsLow, IsRebuilt};
+ghost use Rattle.kd_points.specs.Rebuilding.{IsPointOf, HaveOwnIds, AreNew, Gathers, IsLow, IsMadeOf, IsRebuilt};
 
 use crate::nodes::{Axis, Seat, order};
 use crate::tree::Tree;
@@ -75,15 +75,23 @@ impl Tree {
         Ok(spots)
     }
 
+    /// A balanced tree of these points.
+    pub fn of_points(alloc: Global, spots: &mut [Spot]) -> Result<Tree, NoMemory>
+        requires { HaveOwnIds spots.old }
+        ensures { IfOk result (IsMadeOf spots.old) }
+    {
+        let mut tree = Tree::with_capacity(alloc, spots.len())?;
+        tree.insert_all(spots, Seat::Empty)?;
+        tree.settle();
+        Ok(tree)
+    }
+
     /// A balanced tree of the same points, without dead nodes.
     pub fn rebuilt(&self, alloc: Global) -> Result<Tree, NoMemory>
         requires { IsSound self.now }
         ensures { IfOk result (IsRebuilt self.now) }
     {
         let mut spots = self.points(alloc)?;
-        let mut tree = Tree::with_capacity(alloc, spots.len())?;
-        tree.insert_all(&mut spots, Seat::Empty)?;
-        tree.settle();
-        Ok(tree)
+        Tree::of_points(alloc, &mut spots)
     }
 }

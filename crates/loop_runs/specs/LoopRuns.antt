@@ -61,7 +61,7 @@ pub record IsRunPast (options : RunOptions) (tables : GateTables) (loop : Loop) 
 
 -- The commits are a serial run of the loop from its start: each item was ready at its turn, and none is ready at the end. Their
 -- order is that of the loop's run by its schedule. The report is that of this order and of the states at the end, and then the
--- lines of the run's turns that are wanted.
+-- lines that are wanted of the turns by the schedule and of the drain.
 pub record IsReportOf (options : RunOptions) (tables : GateTables) (loop : Loop) (report : List ℕ) : Type 0 where
   pub commits : List WholeCommit
   pub after : ℕ → State

@@ -8,8 +8,8 @@ ghost use Rattle.rooms.specs.Visits.{Visits, view_of, everyone};
 
 use gx_base::Homed;
 
-/// Who enters a room and leaves it has changed what is told of this room alone, and has both among its moves. A gate that is
-/// left with the mark of the held book's next commit is released then.
+/// Who enters a room and leaves it has changed the value that is told of this room alone, and has both among its moves. A
+/// gate that is left with the mark of the held book's next commit is released then, and none is once the book is left.
 pub fn a_visit_changes_one_room<V: Homed>()
     ensures gate { (view : RoomsView V) (room : ℕ) (was now : V) → view.held room ≡ None → (room == view.book) ≡ false → holds_book view ≡ false → left V.told (entered V.told view room was) room now ≡ record (with_value V.told view room now) { moves = visited room was now view.moves } }
     ensures released { (view : RoomsView V) (room : ℕ) (was now : V) → view.held room ≡ None → (room == view.book) ≡ false → holds_book view ≡ true → (V.told now).mark ≡ commits_entered view + 1 → left V.told (entered V.told view room was) room now ≡ record (with_value V.told view room now) { released = put view.released room true; moves = visited room was now view.moves } }

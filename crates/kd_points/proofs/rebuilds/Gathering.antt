@@ -1,5 +1,5 @@
 -- A tree that is made anew has the points that were put in.
-use Rattle.std.specs.Prelude.{◌≡◌, ℕ, zero, suc, ◌+◌, ◌<◌, ◌≤◌, ℤ, Bool, true, false, cond, Option, Some, None, List, [], ◌∷◌, ◌++◌, length, is_some, count_by, slice_index_or, ◌↔◌, if◌then◌else◌, Result, Ok, Err, OnOk, refl, ◌⊎◌}
+use Rattle.std.specs.Prelude.{◌≡◌, ℕ, zero, suc, ◌+◌, ◌<◌, ◌≤◌, ℤ, Bool, true, false, cond, Option, Some, None, List, [], ◌∷◌, ◌++◌, length, is_some, count_by, slice_index_or, ◌↔◌, if◌then◌else◌, Result, Ok, Err, OnOk, IfOk, refl, ◌⊎◌}
 use Rattle.std.proofs.Common.{sym, ◌∙◌, ap, subst, arith, inl, inr, length-append}
 use Rattle.std.specs.FinMap as map
 use Rattle.std.specs.List.{Contains}
@@ -17,7 +17,7 @@ use Rattle.kd_points.specs.declared.tree.Tree.{Tree}
 use Rattle.kd_points.specs.NearestPoints.{spot_at-with}
 use Rattle.kd_points.specs.Trees.{Nodes, is_point_of}
 use Rattle.kd_points.specs.TreeStates.{node_at, key_of, place, row_of_node, tree_rows, tree_state, dead_nodes, count_of, IsSound, IsBlank, NoPoint}
-use Rattle.kd_points.specs.Rebuilding.{IsPointOf, HasPoint, Gathers, IsRebuilt, IsBalancedTree}
+use Rattle.kd_points.specs.Rebuilding.{IsPointOf, HasPoint, Gathers, IsMadeOf, IsRebuilt, IsBalancedTree}
 use Rattle.kd_points.proofs.states.Basics.{none_some, some_is, same_int, int_eq-of}
 use Rattle.kd_points.proofs.states.StateRows.{with_rows, row_found, get-rows_of, rows_of-same}
 
@@ -136,14 +136,10 @@ spot_id tree id r e = by_row (row_at (tree_state tree) (0, id)) e
     by_row (Some (x ∷ y ∷ z ∷ [])) e = sym (ap (λ (t : Spot). t.id) (some_is (record { id = id; x = x; y = y; z = z }) r e))
     by_row (Some (x ∷ y ∷ z ∷ w ∷ ws)) e = absurd (none_some r e)
 
-module _ (old blank new : Tree) (spots : List Spot) (b : IsBlank blank) (only : (r : Spot) → Contains spots r → IsPointOf old r) (every : (r : Spot) → IsPointOf old r → Contains spots r) (g : Gathers blank new spots) where
+module _ (old new : Tree) (spots : List Spot) (only : (r : Spot) → Contains spots r → IsPointOf old r) (every : (r : Spot) → IsPointOf old r → Contains spots r) (m : IsMadeOf spots new) where
   -- a point of the new tree is one of the old
   was : (r : Spot) → IsPointOf new r → IsPointOf old r
-  was r h = by_else (g.none_else r h)
-    where
-      by_else : IsPointOf blank r ⊎ Contains spots r → IsPointOf old r
-      by_else (inl k) = absurd (none_some r (sym (blank_spot blank r.id b) ∙ k))
-      by_else (inr k) = only r k
+  was r h = only r (m.none_else r h)
 
   same_by : (id : ℤ) (o p : Option Spot) → spot_at (tree_state new) id ≡ o → spot_at (tree_state old) id ≡ p → o ≡ p
   same_by id None None e f = refl
@@ -152,7 +148,7 @@ module _ (old blank new : Tree) (spots : List Spot) (b : IsBlank blank) (only : 
       sym (was r (ap (spot_at (tree_state new)) i ∙ e)) ∙ ap (spot_at (tree_state old)) i ∙ f
   same_by id None (Some r) e f =
       let i : r.id ≡ id = spot_id old id r f in
-      let h : HasPoint new r.id = g.all r (every r (ap (spot_at (tree_state old)) i ∙ f)) in
+      let h : HasPoint new r.id = m.all r (every r (ap (spot_at (tree_state old)) i ∙ f)) in
       absurd (let k : is_some {T = Spot} None ≡ true = sym (ap is_some (ap (spot_at (tree_state new)) i ∙ e)) ∙ h in cc)
 
   pub rebuilt_state : tree_state new ≡ tree_state old
@@ -196,14 +192,29 @@ gathers_parts_ok (Err x) a b c d spots front back middle p f g h = tt
 blank_dead : (tree : Tree) → IsBlank tree → dead_nodes tree ≡ 0
 blank_dead tree b = let e : slab_len tree.nodes ≡ 0 = ap (count_by (is_some {T = Node})) b.slots in omega arith
 
-pub rebuilt_from : (old blank mid new : Tree) (spots given : List Spot) → IsBlank blank → ((r : Spot) → Contains given r ↔ IsPointOf old r) → spots ≡ given → IsSound mid → Gathers blank mid spots → IsBalancedTree mid → new ≡ record mid { grown = 0 } → IsRebuilt old new
-rebuilt_from old blank mid new spots given b p e s g l f = subst (IsRebuilt old) (sym f) (record {
+pub made_from : (blank mid new : Tree) (spots : List Spot) → IsBlank blank → IsSound mid → Gathers blank mid spots → IsBalancedTree mid → new ≡ record mid { grown = 0 } → IsMadeOf spots new
+made_from blank mid new spots b s g l f = subst (IsMadeOf spots) (sym f) (record {
   sound = record { placed = s.placed; counted = s.counted };
-  state = rebuilt_state old blank mid spots b (λ r h. (p r).0 (subst (λ xs. Contains xs r) e h)) (λ r h. subst (λ xs. Contains xs r) (sym e) ((p r).1 h)) g;
+  none_else = λ r h. from_blank r (g.none_else r h);
+  all = g.all;
   none_dead = let d : dead_nodes mid ≤ dead_nodes blank = g.dead in let z : dead_nodes blank ≡ 0 = blank_dead blank b in omega arith;
   none_grown = refl;
   balanced = l;
 })
+  where
+    from_blank : (r : Spot) → IsPointOf blank r ⊎ Contains spots r → Contains spots r
+    from_blank r (inl k) = absurd (none_some r (sym (blank_spot blank r.id b) ∙ k))
+    from_blank r (inr k) = k
+
+pub made_from_ok : {E : Type 0} (result : Result Tree E) (spots : List Spot) (old : Tree) → IfOk result (IsMadeOf spots) → ((r : Spot) → Contains spots r ↔ IsPointOf old r) → IfOk result (IsRebuilt old)
+made_from_ok (Ok new) spots old m p = record {
+  sound = m.sound;
+  state = rebuilt_state old new spots (λ r h. (p r).0 h) (λ r h. (p r).1 h) m;
+  none_dead = m.none_dead;
+  none_grown = m.none_grown;
+  balanced = m.balanced;
+}
+made_from_ok (Err e) spots old m p = tt
 
 pub blank_state : (tree : Tree) → IsBlank tree → tree_state tree ≡ with_rows map.empty
 blank_state tree b = ap (λ es. with_rows (tree_rows (node_at tree) es)) b.entries

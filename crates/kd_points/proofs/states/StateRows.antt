@@ -41,7 +41,7 @@ get-rows_of look (e ∷ es) id =
 apart_sorts : (i : ℕ) (k x : ℤ) → (i ≡ 0 → ⊥) → same_row (i, k) (0, x) ≡ false
 apart_sorts i k x n = false_of (same_row (i, k) (0, x)) (λ t. n (ap (λ (q : ℕ × ℤ). q.0) (same_row-is (i, k) (0, x) t)))
 
-get-rows_of-other : (look : Nodes) (es : List (ℤ × ℕ)) (i : ℕ) (k : ℤ) → (i ≡ 0 → ⊥) → map.get (tree_rows look es) (i, k) ≡ None
+pub get-rows_of-other : (look : Nodes) (es : List (ℤ × ℕ)) (i : ℕ) (k : ℤ) → (i ≡ 0 → ⊥) → map.get (tree_rows look es) (i, k) ≡ None
 get-rows_of-other look [] i k n = map.get-empty row_cmp (i, k)
 get-rows_of-other look (e ∷ es) i k n =
     row_at-with (with_rows (tree_rows look es)) (0, e.0) (row_of_node e.0 (look e.1)) (i, k)

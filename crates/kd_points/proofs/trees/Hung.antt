@@ -32,7 +32,7 @@ alike_sound old new a s = record {
   counted = a.live ∙ s.counted ∙ sym (ap count_of (alike_state old new a));
 }
 
-childless : (axis : Axis) (spot : Spot) (depth : ℕ) (up : Option ℕ) (side : Bool) → child (leaf_of axis spot depth up) side ≡ None
+childless : (axis : Axis) (spot : Spot) (depth up : ℕ) (side : Bool) → child (leaf_of axis spot depth up) side ≡ None
 childless axis spot depth up true = refl
 childless axis spot depth up false = refl
 
@@ -66,10 +66,10 @@ n_plus_one n = omega arith
 
 -- behind a node
 module _ (old mid new : Tree) (spot : Spot) (axis : Axis) (key at : ℕ) (n : Node) (left : Bool) (s : IsSound old) (free : NoPoint old spot.id) (stood : node_at old at ≡ Some n)
-    (seat : IsSeat (node_at old) old.root spot (Free at left)) (p : IsPlanted old mid key (leaf_of axis spot (n.depth + 1) (Some at))) (u : Updates mid.nodes new.nodes at (Some (linked n left key)))
+    (seat : IsSeat (node_at old) old.root spot (Free at left)) (p : IsPlanted old mid key (leaf_of axis spot (n.depth + 1) at)) (u : Updates mid.nodes new.nodes at (Some (linked n left key)))
     (size : slab_len new.nodes ≡ slab_len mid.nodes) (rest : new ≡ record mid { nodes = new.nodes }) (fits : FitsSpot spot) (clear : IsClear old spot) where
   abbrev leaf : Node
-  leaf = leaf_of axis spot (n.depth + 1) (Some at)
+  leaf = leaf_of axis spot (n.depth + 1) at
 
   same : seat.0 ≡ n
   same = some_is seat.0 n (sym seat.1 ∙ stood)
@@ -96,10 +96,10 @@ module _ (old mid new : Tree) (spot : Spot) (axis : Axis) (key at : ℕ) (n : No
   hung_from = grown_by old new spot key leaf s free
       (subst (λ r. IsTree (node_at new) r (slab_len new.nodes) (key_of new)) (sym root) (subst (λ z. IsTree (node_at new) old.root z (key_of new)) (sym (size ∙ p.size))
       (grown_tree (node_at old) (node_at new) key at n leaf left p.vacant stood open_side here u.changed others old.root (slab_len old.nodes) (key_of old) (key_of new) s.placed
-      (subst (λ (x : Node). way (node_at old) spot x.depth old.root ≡ Some at) same seat.4) (ap (λ (x : Node). is_left x spot) (sym same) ∙ seat.3) (childless axis spot (n.depth + 1) (Some at)) (omega arith) fits numbers
+      (subst (λ (x : Node). way (node_at old) spot x.depth old.root ≡ Some at) same seat.4) (ap (λ (x : Node). is_left x spot) (sym same) ∙ seat.3) (childless axis spot (n.depth + 1) at) (omega arith) fits numbers
       (others_live old spot.id s free) clear refl)))
       (grown_rows (node_at old) (node_at new) key at n leaf left p.vacant stood open_side here u.changed others old.root (slab_len old.nodes) (key_of old) (key_of new) s.placed
-      (subst (λ (x : Node). way (node_at old) spot x.depth old.root ≡ Some at) same seat.4) (ap (λ (x : Node). is_left x spot) (sym same) ∙ seat.3) (childless axis spot (n.depth + 1) (Some at)) (omega arith) fits numbers
+      (subst (λ (x : Node). way (node_at old) spot x.depth old.root ≡ Some at) same seat.4) (ap (λ (x : Node). is_left x spot) (sym same) ∙ seat.3) (childless axis spot (n.depth + 1) at) (omega arith) fits numbers
       (others_live old spot.id s free) clear refl refl)
       (grown_stays (node_at old) (node_at new) key at n leaf left p.vacant stood open_side here u.changed others)
       (ap (λ (t : Tree). t.live) rest ∙ p.live) here refl (size ∙ p.size)
@@ -111,7 +111,7 @@ module _ (old mid new : Tree) (spot : Spot) (axis : Axis) (key at : ℕ) (n : No
         let n_is : s.0 ≡ n = some_is s.0 n (sym s.1 ∙ stood) in (
           leaf,
           here,
-          childless axis spot (n.depth + 1) (Some at) (is_left leaf r),
+          childless axis spot (n.depth + 1) at (is_left leaf r),
           refl,
           ap (λ d. way (node_at new) r d new.root) (n_plus_one n.depth) ∙ ap (way (node_at new) r (suc n.depth)) root
               ∙ way_to_new (node_at old) (node_at new) key at n leaf left p.vacant stood open_side here u.changed others r old.root
@@ -138,20 +138,20 @@ module _ (old mid new : Tree) (spot : Spot) (axis : Axis) (key at : ℕ) (n : No
       by_key j d e (inr k) (inr f) = inr (sym (ap node_depth (others j k f)) ∙ e)
 
 -- as the root
-pub rooted_from : (old mid : Tree) (spot : Spot) (axis : Axis) (key : ℕ) → IsSound old → NoPoint old spot.id → old.root ≡ None → IsPlanted old mid key (leaf_of axis spot 0 None) → FitsSpot spot → Grown old (record mid { root = Some key }) spot
+pub rooted_from : (old mid : Tree) (spot : Spot) (axis : Axis) (key : ℕ) → IsSound old → NoPoint old spot.id → old.root ≡ None → IsPlanted old mid key (leaf_of axis spot 0 0) → FitsSpot spot → Grown old (record mid { root = Some key }) spot
 rooted_from old mid spot axis key s free none p fits =
     let t : IsTree (node_at old) None (slab_len old.nodes) (key_of old) = subst (λ r. IsTree (node_at old) r (slab_len old.nodes) (key_of old)) none s.placed in
-    grown_by old (record mid { root = Some key }) spot key (leaf_of axis spot 0 None) s free
+    grown_by old (record mid { root = Some key }) spot key (leaf_of axis spot 0 0) s free
     (subst (λ z. IsTree (node_at mid) (Some key) z (key_of mid)) (sym p.size)
-    (first_tree (node_at old) (node_at mid) key (leaf_of axis spot 0 None) p.vacant p.nodes.changed p.nodes.others (slab_len old.nodes) (key_of old) (key_of mid) t (childless axis spot 0 None) refl fits p.keys refl))
-    (first_rows (node_at old) (node_at mid) key (leaf_of axis spot 0 None) p.vacant p.nodes.changed p.nodes.others (slab_len old.nodes) (key_of old) (key_of mid) t (childless axis spot 0 None) refl fits p.keys refl refl)
-    (first_stays (node_at old) (node_at mid) key (leaf_of axis spot 0 None) p.vacant p.nodes.changed p.nodes.others (slab_len old.nodes) (key_of old) (key_of mid) t (childless axis spot 0 None) refl fits p.keys refl)
+    (first_tree (node_at old) (node_at mid) key (leaf_of axis spot 0 0) p.vacant p.nodes.changed p.nodes.others (slab_len old.nodes) (key_of old) (key_of mid) t (childless axis spot 0 0) refl fits p.keys refl))
+    (first_rows (node_at old) (node_at mid) key (leaf_of axis spot 0 0) p.vacant p.nodes.changed p.nodes.others (slab_len old.nodes) (key_of old) (key_of mid) t (childless axis spot 0 0) refl fits p.keys refl refl)
+    (first_stays (node_at old) (node_at mid) key (leaf_of axis spot 0 0) p.vacant p.nodes.changed p.nodes.others (slab_len old.nodes) (key_of old) (key_of mid) t (childless axis spot 0 0) refl fits p.keys refl)
     p.live p.nodes.changed refl p.size
 
-pub rooted_below : (old mid : Tree) (spot : Spot) (axis : Axis) (key : ℕ) → old.root ≡ None → IsPlanted old mid key (leaf_of axis spot 0 None) → HangsBelow old (record mid { root = Some key }) Empty spot axis key
+pub rooted_below : (old mid : Tree) (spot : Spot) (axis : Axis) (key : ℕ) → old.root ≡ None → IsPlanted old mid key (leaf_of axis spot 0 0) → HangsBelow old (record mid { root = Some key }) Empty spot axis key
 rooted_below old mid spot axis key none p = record {
   vacant = p.vacant;
-  below = λ r s. (leaf_of axis spot 0 None, p.nodes.changed, childless axis spot 0 None (is_left (leaf_of axis spot 0 None) r), refl, refl);
+  below = λ r s. (leaf_of axis spot 0 0, p.nodes.changed, childless axis spot 0 0 (is_left (leaf_of axis spot 0 0) r), refl, refl);
   beside = λ r j side s d. absurd (ended (node_at old) r s.0.depth j (ap (way (node_at old) r s.0.depth) (sym none) ∙ s.4));
   deep = ap node_depth p.nodes.changed;
   other_depths = λ j d e. by_key j d e (same_key j key);
@@ -162,7 +162,7 @@ rooted_below old mid spot axis key none p = record {
 }
   where
     by_bare : NoneBare old → (j : ℕ) (m : Node) → node_at mid j ≡ Some m → (j ≡ key) ⊎ (j ≡ key → ⊥) → m.bare ≡ false
-    by_bare b j m g (inl k) = ap (λ (x : Node). x.bare) (some_is m (leaf_of axis spot 0 None) (sym g ∙ ap (node_at mid) k ∙ p.nodes.changed))
+    by_bare b j m g (inl k) = ap (λ (x : Node). x.bare) (some_is m (leaf_of axis spot 0 0) (sym g ∙ ap (node_at mid) k ∙ p.nodes.changed))
     by_bare b j m g (inr k) = b j m (sym (p.nodes.others j k) ∙ g)
 
     by_key : (j d : ℕ) → node_depth (node_at mid j) ≡ Some d → (j ≡ key) ⊎ (j ≡ key → ⊥) → (j ≡ key) ⊎ (node_depth (node_at old j) ≡ Some d)
