@@ -51,6 +51,8 @@ impl KdPoints {
     pub fn with_points(alloc: Global, spots: &[Spot]) -> Result<KdPoints, NoMemory>
         ensures state { IfOk result (λ points. points_state points ≡ added_points spots.now) }
         ensures looked { IfOk result (λ points. distances_taken points ≡ 0) }
+        ensures trim { IfOk result IsTrim }
+        ensures dropped { IfOk result (λ points. dead_nodes_of points ≡ 0) }
         ensures balanced { IfOk result IsBalanced }
     {
         let mut points = chosen_points(alloc, spots)?;

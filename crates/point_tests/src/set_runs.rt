@@ -1,5 +1,5 @@
-//! Thousands of drawn sets, each with a few dozen calls, some of them taken back and done again, each answer beside
-//! the list's.
+//! Thousands of drawn sets, each with a few dozen calls, and some with a thousand, whose trees are made anew. Some calls are
+//! taken back and done again. Each answer stands beside the list's.
 ghost use Rattle.std.specs.Prelude.{◌<◌, ◌≡◌, IfOk, OnOk};
 ghost use Rattle.gx_base.specs.Steps.{next_state, reply_to};
 
@@ -13,9 +13,35 @@ use std::test::Fail;
 
 const SETS: u64 = 2000;
 
-const STEPS: u64 = 80;
+const LARGE_SETS: u64 = 30;
 
-const NUMBERS: u64 = 24;
+/// Trees of fewer nodes are never made anew.
+const LARGE: u64 = 64;
+
+/// How many calls a set gets, on how many numbers.
+#[derive(Clone, Copy, Drop)]
+enum Size {
+    Few,
+    Many,
+}
+
+impl Size {
+    fn steps(self) -> u64 {
+        match self {
+            Size::Few => 80,
+            Size::Many => 1000,
+        }
+    }
+
+    fn numbers(self) -> u64
+        ensures { 0 < result }
+    {
+        match self {
+            Size::Few => 24,
+            Size::Many => 200,
+        }
+    }
+}
 
 /// How the points of a set lie.
 #[derive(Clone, Copy, Drop)]
@@ -63,12 +89,25 @@ fn drawn_place(draws: &mut Draws, shape: Shape) -> (i64, i64) {
     }
 }
 
-fn drawn_call(draws: &mut Draws, shape: Shape) -> Call {
+/// A remove of the point of a number where it stands; of a number without a point, the call itself.
+fn remove_of(list: &ListOfPoints, call: Call) -> Call {
+    match list.at(call.a) {
+        None => call,
+        Some(point) => Call::new(REMOVE, point.id, point.x, point.y, point.z),
+    }
+}
+
+fn drawn_call(draws: &mut Draws, shape: Shape, size: Size, list: &ListOfPoints) -> Call {
     let method = ADD + draws.below(4) as u32;
-    let id = draws.below(NUMBERS) as i64 - 1;
+    let id = draws.below(size.numbers()) as i64 - 1;
     let (x, y) = drawn_place(draws, shape);
     let z = if draws.below(16) == 0 { 1 } else { 0 };
-    Call::new(method, id, x, y, z)
+    let call = Call::new(method, id, x, y, z);
+    if method == REMOVE && draws.below(2) == 0 {
+        remove_of(list, call)
+    } else {
+        call
+    }
 }
 
 /// How many calls there were of each sort, and how many answers differed from the list's.
@@ -77,15 +116,24 @@ struct Counts {
     changed: u64,
     found: u64,
     undone: u64,
+    tidied: u64,
     differing: u64,
 }
+
+const NONE_COUNTED: Counts = Counts {
+    changed: 0,
+    found: 0,
+    undone: 0,
+    tidied: 0,
+    differing: 0,
+};
 
 fn counted(count: u64, more: bool) -> u64 {
     if more { count.saturating_add(1) } else { count }
 }
 
-fn same_points(points: &KdPoints, list: &ListOfPoints) -> bool {
-    for id in -1..NUMBERS as i64 {
+fn same_points(points: &KdPoints, list: &ListOfPoints, size: Size) -> bool {
+    for id in -1..size.numbers() as i64 {
         if points.at(id) != list.at(id) {
             return false;
         }
@@ -126,9 +174,10 @@ fn step(
     list: &mut ListOfPoints,
     draws: &mut Draws,
     shape: Shape,
+    size: Size,
     counts: &mut Counts,
 ) -> Result<(), NoMemory> {
-    let call = drawn_call(draws, shape);
+    let call = drawn_call(draws, shape, size, list);
     let reply = if draws.below(2) == 0 {
         points.apply(call)?
     } else {
@@ -149,39 +198,53 @@ fn step(
             take_back(list, call)?;
         }
         counts.undone = counted(counts.undone, true);
-        counts.differing = counted(counts.differing, !same_points(points, list));
+        counts.differing = counted(counts.differing, !same_points(points, list, size));
     }
     if draws.below(20) == 0 {
         points.tidy()?;
-        counts.differing = counted(counts.differing, !same_points(points, list));
+        counts.tidied = counted(counts.tidied, points.count() >= LARGE);
+        counts.differing = counted(counts.differing, !same_points(points, list, size));
     }
     Ok(())
 }
 
-fn run_set(alloc: Global, set: u64, counts: &mut Counts) -> Result<(), NoMemory> {
+fn run_set(alloc: Global, set: u64, size: Size, counts: &mut Counts) -> Result<(), NoMemory> {
     let mut points = KdPoints::new(alloc);
     let mut list = ListOfPoints::new(alloc);
     let mut draws = Draws::new(set);
-    for _ in 0..STEPS {
-        step(&mut points, &mut list, &mut draws, shape_of(set), counts)?;
+    for _ in 0..size.steps() {
+        step(
+            &mut points,
+            &mut list,
+            &mut draws,
+            shape_of(set),
+            size,
+            counts,
+        )?;
     }
-    counts.differing = counted(counts.differing, !same_points(&points, &list));
+    counts.differing = counted(counts.differing, !same_points(&points, &list, size));
     Ok(())
 }
 
 #[test]
 fn drawn_sets_are_as_the_list(rt: HostRuntime) -> Result<(), Fail> {
-    let mut counts = Counts {
-        changed: 0,
-        found: 0,
-        undone: 0,
-        differing: 0,
-    };
+    let mut counts = NONE_COUNTED;
     for set in 0..SETS {
-        run_set(rt.alloc(), set, &mut counts)?;
+        run_set(rt.alloc(), set, Size::Few, &mut counts)?;
     }
     assert_eq!(rt; counts.differing, 0);
     assert!(rt; counts.changed > 20000 && counts.found > 20000 && counts.undone > 20000);
+    Ok(())
+}
+
+#[test]
+fn trees_that_are_made_anew_are_as_the_list(rt: HostRuntime) -> Result<(), Fail> {
+    let mut counts = NONE_COUNTED;
+    for set in 0..LARGE_SETS {
+        run_set(rt.alloc(), set, Size::Many, &mut counts)?;
+    }
+    assert_eq!(rt; counts.differing, 0);
+    assert!(rt; counts.tidied > 100);
     Ok(())
 }
 
@@ -197,23 +260,44 @@ fn again(points: &mut KdPoints, call: Call) -> Result<bool, NoMemory> {
     Ok(second == reply && points.at(call.a) == after)
 }
 
+fn all_again(points: &mut KdPoints, calls: &[Call]) -> Result<bool, NoMemory> {
+    for call in calls {
+        if !again(points, *call)? {
+            return Ok(false);
+        }
+    }
+    Ok(true)
+}
+
+/// Takes a call back that replied 1. Whether it leaves this place, or none, to its number.
+fn leaves(points: &mut KdPoints, call: Call, place: Option<(i64, i64)>) -> bool {
+    let yes = Reply::new(1, 0, 0, 0);
+    if !points.roomed(call, yes) {
+        return false;
+    }
+    points.undo(call, yes);
+    match (points.at(call.a), place) {
+        (None, None) => true,
+        (Some(point), Some((x, y))) => point.x == x && point.y == y,
+        _ => false,
+    }
+}
+
 #[test]
 fn a_number_is_taken_out_and_put_in_elsewhere(rt: HostRuntime) -> Result<(), Fail> {
     let mut points = KdPoints::new(rt.alloc());
-    let calls = [
-        Call::new(ADD, 4, 1, 1, 0),
-        Call::new(REMOVE, 4, 1, 1, 0),
-        Call::new(ADD, 4, 2, 2, 0),
-        Call::new(REMOVE, 4, 1, 1, 0),
-        Call::new(REMOVE, 4, 2, 2, 0),
-        Call::new(ADD, 4, 1, 1, 0),
-    ];
-    for call in calls {
-        assert!(rt; again(&mut points, call)?);
-    }
-    let yes = Reply::new(1, 0, 0, 0);
-    assert!(rt; points.roomed(calls[2], yes) && points.roomed(calls[0], yes));
+    let first = Call::new(ADD, 4, 1, 1, 0);
+    let out = Call::new(REMOVE, 4, 1, 1, 0);
+    let elsewhere = Call::new(ADD, 4, 2, 2, 0);
+    let out_again = Call::new(REMOVE, 4, 2, 2, 0);
+    assert!(rt; all_again(&mut points, &[first, out, elsewhere, out, out_again, first])?);
     assert!(rt; points.apply(Call::new(NEAREST, 9, 0, 0, 0))? == Reply::new(4, 1, 1, 0));
     assert_eq!(rt; points.count(), 1);
+    assert!(rt; leaves(&mut points, first, None));
+    assert!(rt; leaves(&mut points, out_again, Some((2, 2))));
+    assert!(rt; leaves(&mut points, elsewhere, None));
+    assert!(rt; leaves(&mut points, out, Some((1, 1))));
+    assert!(rt; leaves(&mut points, first, None));
+    assert_eq!(rt; points.count(), 0);
     Ok(())
 }
