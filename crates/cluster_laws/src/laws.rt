@@ -18,18 +18,19 @@ pub fn merged_points_are_mutually_nearest()
 {}
 
 /// Along the chain of each body the key of a pair, of a point and the nearest one to it, is greater than that of the next
-/// pair, until the chain comes back to the point before, and ends.
+/// pair; or the next pair goes back to the point before, and is the last one.
 pub fn keys_fall_along_chains()
     ensures { (spots : List Spot) (commits : List WholeCommit) (ended : Ended) → IsRunOn spots commits ended → KeysFallInEach commits }
 {}
 
 /// Wherever a run on the points of a file has come to, the bound on the calls of `nearest` isn't what would end a body
-/// there: its chain ends at two points that are each other's nearest.
+/// there.
 pub fn bodies_end_by_themselves()
     ensures { (bytes : List ℕ) (spots : List Spot) (commits : List WholeCommit) (ended : Ended) → IsReadable bytes spots → IsRunOn spots commits ended → (item : Item) → IsUnbounded (length spots) item ended.states }
 {}
 
-/// A whole run on the points of a file that has one ends in one point, whose weight is the number of the points.
+/// The report on a whole run on the points of a file that has one tells one point that is left, whose weight is the number
+/// of the points.
 pub fn whole_runs_end_in_one_point()
     ensures { (bytes : List ℕ) (spots : List Spot) (commits : List WholeCommit) (after : ℕ → State) → IsReadable bytes spots → 0 < length spots
         → IsRunOn spots commits (record { states = after; ready = []; outcomes = outcomes_of commits }) → EndsInOne (length spots) (order_of commits) after }

@@ -4,9 +4,7 @@ ghost use Rattle.std.proofs.Props.{props};
 ghost use Rattle.kd_points.specs.TreeStates.{IsSound};
 
 use crate::choosing::chosen_points;
-use crate::point_calls::{
-    at_reply, is_addable, is_at, nearest_reply, spot_of_call, yes_or_no,
-};
+use crate::point_calls::{at_reply, is_addable, is_at, nearest_reply, spot_of_call, yes_or_no};
 use crate::point_methods::{PointDeed, deed_of};
 use crate::point_shipping::point_table;
 use crate::search::nearest;

@@ -17,10 +17,10 @@ returns-in_ok-push c = λ s h.
 
 pub returns-else-is_addable : goal.returns-else-is_addable
 returns-else-is_addable c = elim c.else-is_addable.branch [
-    else-is_addable-via-then-is_addable+in_ok-insert+else-branch w ↦ λ s h.
+  | else-is_addable-via-then-is_addable+in_ok-insert+else-branch w ↦ λ s h.
       let f : FitsSigned w64 c.args.spot.id = search rules in
       chosen_before s c.args.self.now c.else-is_addable.self c.args.spot _ (to_z-of_z w64 c.args.spot.id f) h (not_off _ (sym w.in_ok-insert.ensures.added ∙ w.if-branch.false)) (ap (λ (x : Chosen). x.spots.items) w.self-is)
       (λ id. ap (λ (x : Chosen). contains int_eq x.numbers id) w.self-is ∙ w.in_ok-insert.ensures.updates.0 id)
-    | else-is_addable-via-else-is_addable w ↦ λ s h.
+  | else-is_addable-via-else-is_addable w ↦ λ s h.
       chosen_without s c.args.self.now c.else-is_addable.self c.args.spot c.args.spot.id refl h (ap may_add (sym c.add_call.ensures) ∙ sym c.is_addable.ensures ∙ w.if-is_addable.false) w.self-is
 ]
