@@ -34,7 +34,8 @@ impl Size {
     }
 
     fn numbers(self) -> u64
-        ensures { 0 < result }
+        ensures some { 0 < result }
+        ensures few { result < 1000 }
     {
         match self {
             Size::Few => 24,

@@ -12,15 +12,15 @@ run_values-requires-clause-kinds c = kinds_are c.args.options (shard_tables c.ar
 pub run_values-requires-clause-new : goal.run_values-requires-clause-new
 run_values-requires-clause-new c =
     new_for c.args.options (shard_tables c.args.table.now) (network_loop (view c.args.net.now)) c.in-Ok.values.items c.in-Ok.ensures _
-    (same_operator (view c.args.net.now) (item_plan c.in-Ok-operator.operator) c.in-Ok-operator.ensures) few_rooms
+    (same_operator (view c.args.net.now) (item_plan c.in-Ok-new.operator) c.in-Ok-new.ensures) few_rooms
 
-pub returns-in-Ok-operator-clause-played : goal.returns-in-Ok-operator-clause-played
-returns-in-Ok-operator-clause-played c =
+pub returns-in-Ok-new-clause-played : goal.returns-in-Ok-new-clause-played
+returns-in-Ok-new-clause-played c =
     of_answer _ _ c.run_values.result
     (λ played. is_played c.args.options (shard_tables c.args.table.now) (network_loop (view c.args.net.now)) c.in-Ok.values.items c.in-Ok.ensures _
-    (same_operator (view c.args.net.now) (item_plan c.in-Ok-operator.operator) c.in-Ok-operator.ensures) (turns_of played.trace.items) _) c.run_values.ensures.played
+    (same_operator (view c.args.net.now) (item_plan c.in-Ok-new.operator) c.in-Ok-new.ensures) (turns_of played.trace.items) _) c.run_values.ensures.played
 
-pub returns-in-Ok-operator-clause-past : goal.returns-in-Ok-operator-clause-past
-returns-in-Ok-operator-clause-past c = λ limit e.
+pub returns-in-Ok-new-clause-past : goal.returns-in-Ok-new-clause-past
+returns-in-Ok-new-clause-past c = λ limit e.
     is_past c.args.options (shard_tables c.args.table.now) (network_loop (view c.args.net.now)) c.in-Ok.values.items c.in-Ok.ensures _
-    (same_operator (view c.args.net.now) (item_plan c.in-Ok-operator.operator) c.in-Ok-operator.ensures) limit (c.run_values.ensures.past limit e)
+    (same_operator (view c.args.net.now) (item_plan c.in-Ok-new.operator) c.in-Ok-new.ensures) limit (c.run_values.ensures.past limit e)
