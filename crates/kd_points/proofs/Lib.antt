@@ -1,6 +1,3 @@
-pub mod states
-pub mod trees
-pub mod searches
-pub mod rebuilds
+pub mod lists
 pub mod tables
 pub mod calls

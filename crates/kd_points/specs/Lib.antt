@@ -1,12 +1,7 @@
-pub mod Trees
-pub mod TreeStates
-pub mod Searches
-pub mod Rebuilding
 pub mod PointMethods
 pub mod PointTables
 pub mod NearestPoints
 pub mod PointValidity
-pub mod TreePlaces
 pub mod PointsState
 pub mod PointLists
 pub mod SuitedTables

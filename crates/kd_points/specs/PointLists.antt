@@ -8,8 +8,8 @@ use Rattle.gx_base.specs.declared.kinds.Kind.TheVariants.{Points}
 use Rattle.gx_base.specs.Kinds.{kind_number}
 use Rattle.gx_base.specs.States.{State, row_at}
 use Rattle.kd_points.specs.declared.choosing.Chosen.{Chosen}
-use Rattle.kd_points.specs.TreeStates.{place}
-use Rattle.kd_points.specs.Rebuilding.{HaveOwnIds}
+use Rattle.point_trees.specs.TreeStates.{place}
+use Rattle.point_trees.specs.Rebuilding.{HaveOwnIds}
 
 -- these are the points of the state, each once
 pub record ArePoints (s : State) (points : List Spot) : Type 0 where

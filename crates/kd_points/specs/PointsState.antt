@@ -19,9 +19,9 @@ use Rattle.gx_base.specs.States.{State}
 use Rattle.gx_base.specs.Steps.{IsState, next_state}
 use Rattle.gx_base.proofs.CallerLemmas.{point_deed-foreign}
 use Rattle.kd_points.specs.declared.point_set.KdPoints.{KdPoints}
-use Rattle.kd_points.specs.TreeStates.{tree_state, dead_nodes, has_node}
-use Rattle.kd_points.specs.Rebuilding.{IsLeanTree, IsBalancedTree}
-use Rattle.kd_points.specs.TreePlaces.{tree_state-HoldsPlaces}
+use Rattle.point_trees.specs.TreeStates.{tree_state, dead_nodes, has_node}
+use Rattle.point_trees.specs.Rebuilding.{IsLeanTree, IsBalancedTree}
+use Rattle.point_trees.proofs.CallerLemmas.{tree_state-HoldsPlaces}
 
 -- the state of points
 abbrev pub points_state : KdPoints → State

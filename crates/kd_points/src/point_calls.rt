@@ -5,7 +5,7 @@ ghost use Rattle.gx_base.specs.PointKind.{may_add, point_row_of, at_reply as rep
 ghost use Rattle.gx_base.specs.RowActions.{same_content};
 ghost use Rattle.gx_base.specs.Spots as near;
 ghost use Rattle.kd_points.specs.PointsState.{add_call as call_of_add};
-ghost use Rattle.kd_points.specs.TreeStates.{place};
+ghost use Rattle.point_trees.specs.TreeStates.{place};
 
 use crate::point_methods::ADD;
 use gx_base::{Call, Reply, Spot};

@@ -1,15 +1,14 @@
 ghost use Rattle.std.specs.Prelude.{◌≡◌, ◌≢◌, ◌≤◌, pos, true, IsTrue, IsOk, IfOk, OnOk, OnErr, if◌then◌else◌};
 ghost use Rattle.std.specs.FinMap as map;
 ghost use Rattle.std.proofs.Props.{props};
-ghost use Rattle.kd_points.specs.TreeStates.{IsSound};
+ghost use Rattle.point_trees.specs.TreeStates.{IsSound};
 
 use crate::choosing::chosen_points;
 use crate::point_calls::{at_reply, is_addable, is_at, nearest_reply, spot_of_call, yes_or_no};
 use crate::point_methods::{PointDeed, deed_of};
 use crate::point_shipping::point_table;
-use crate::search::nearest;
-use crate::tree::Tree;
 use gx_base::{Call, Choice, Kind, NoMemory, Reply, SeqType, Spot, Table};
+use point_trees::{Tree, nearest};
 use std::alloc::Global;
 
 /// Points by number. A point is found by its number, or as the nearest one to a spot.
@@ -30,7 +29,7 @@ impl KdPoints {
     ghost use Rattle.gx_base.specs.RowActions.{turns, action_next, action_reply, action_inverse};
     ghost use Rattle.gx_base.specs.Spots as near;
     ghost use Rattle.gx_base.specs.States.{with_row};
-    ghost use Rattle.kd_points.specs.TreeStates.{count_of, has_node};
+    ghost use Rattle.point_trees.specs.TreeStates.{count_of, has_node};
     ghost use Rattle.kd_points.specs.PointsState.{points_state, distances_taken, change_of, changed_room, has_points_room, added_points, dead_nodes_of, IsTrim, IsBalanced};
 
     /// No points.

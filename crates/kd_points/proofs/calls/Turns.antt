@@ -1,5 +1,5 @@
 -- What calls of points ask of a row.
-use Rattle.std.specs.Prelude.{◌≡◌, ℕ, ℤ, pos, Bool, true, false, ◌&&◌, Option, Some, None, List, if◌then◌else◌, slice_index_or, IsTrue, refl}
+use Rattle.std.specs.Prelude.{◌≡◌, ℤ, pos, Bool, true, false, ◌&&◌, Option, Some, None, List, if◌then◌else◌, IsTrue, refl}
 use Rattle.std.proofs.Common.{sym, ◌∙◌, ap, subst}
 use Rattle.std.specs.Ordering.{int_eq}
 use Rattle.gx_base.specs.declared.calls.Call.{Call}
@@ -10,14 +10,10 @@ use Rattle.gx_base.specs.RowActions.{turns, same_content}
 use Rattle.gx_base.specs.Spots.{spot_of_call}
 use Rattle.gx_base.proofs.CallerLemmas.{same_content-is}
 use Rattle.gx_base.specs.States.{row_at}
-use Rattle.kd_points.specs.declared.nodes.Node.{Node}
-use Rattle.kd_points.specs.declared.tree.Tree.{Tree}
+use Rattle.point_trees.specs.declared.tree.Tree.{Tree}
 use Rattle.kd_points.specs.PointsState.{changed_room}
-use Rattle.kd_points.proofs.trees.LiveNodes.{IsNodeOf, IsLive}
-use Rattle.kd_points.specs.TreeStates.{place, node_at, tree_state, holds_spot, has_node, KeepsNodes}
-use Rattle.kd_points.proofs.searches.Ends.{there_live}
-use Rattle.kd_points.proofs.trees.Holders.{holds-at}
-use Rattle.kd_points.proofs.rebuilds.Gathering.{place_row, row-spot}
+use Rattle.point_trees.specs.TreeStates.{place, tree_state, has_node, KeepsNodes}
+use Rattle.point_trees.proofs.CallerLemmas.{held_point, place_row, row-spot}
 
 and_true : (b : Bool) → b ≡ (b && true)
 and_true true = refl
@@ -46,15 +42,10 @@ pub found_row : (tree : Tree) (id given : ℤ) (found : Option Spot) (r : Spot) 
 found_row tree id given found r wanted e f g = sym (ap (λ o. same_content o (Some wanted)) (row_is tree id given found (Some r) e f g))
 
 -- where a remove finds its place, the tree has a node for the spot
-node_held : (slots : List (Option Node)) (i : ℕ) (o : Option Node) (r : Spot) → slice_index_or slots i None ≡ o → IsNodeOf o r → holds_spot slots r ≡ true
-node_held slots i None r g h = absurd h
-node_held slots i (Some n) r g h = holds-at slots i n r g h.1
-
 pub held_node : (tree : Tree) (c : Call) → turns true (point_row_of c) (tree_state tree) c.a ≡ true → has_node tree (spot_of_call c) ≡ true
 held_node tree c t =
     let row : row_at (tree_state tree) (0, c.a) ≡ point_row_of c = same_content-is (row_at (tree_state tree) (0, c.a)) (point_row_of c) t in
-    let l : IsLive (node_at tree) (spot_of_call c) = there_live tree c.a (spot_of_call c) (ap (spot_of c.a) row) in
-    node_held tree.nodes.slots l.0 (node_at tree l.0) (spot_of_call c) refl l.1
+    held_point tree c.a (spot_of_call c) (ap (spot_of c.a) row)
 
 -- so it can be undone in that node
 pub removed_room : (old new : Tree) (c : Call) (holds : Bool) (reply : Reply) → KeepsNodes old new → holds ≡ turns true (point_row_of c) (tree_state old) c.a → holds ≡ true → IsTrue (changed_room (has_node new (spot_of_call c)) reply)

@@ -5,7 +5,7 @@ use Rattle.std.specs.Ordering.{int_eq}
 use Rattle.gx_base.specs.PointKind.{may_add}
 use Rattle.kind_tables.proofs.CallerLemmas.{not_true}
 use Rattle.kd_points.specs.declared.choosing.Chosen.{Chosen}
-use Rattle.kd_points.proofs.rebuilds.Choosing.{chosen_more, chosen_before, chosen_without, not_off}
+use Rattle.kd_points.proofs.lists.Choosing.{chosen_more, chosen_before, chosen_without, not_off}
 use Rattle.kd_points.proofs.choosing.Chosen.take.Goals as goal
 use Rattle.kd_points.proofs.choosing.Chosen.take.Goals.{else-is_addable-via-then-is_addable+in_ok-insert+else-branch, else-is_addable-via-else-is_addable}
 

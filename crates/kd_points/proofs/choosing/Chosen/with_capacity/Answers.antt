@@ -1,5 +1,4 @@
-use Rattle.kd_points.specs.declared.choosing.Chosen.{Chosen}
-use Rattle.kd_points.proofs.rebuilds.Choosing.{none_yet}
+use Rattle.kd_points.proofs.lists.Choosing.{none_yet}
 use Rattle.kd_points.proofs.choosing.Chosen.with_capacity.Goals as goal
 
 pub returns : goal.returns

@@ -1,4 +1,4 @@
-use Rattle.kd_points.proofs.rebuilds.Gathering.{blank_sound, blank_state}
+use Rattle.point_trees.proofs.CallerLemmas.{blank_sound, blank_state}
 use Rattle.kd_points.proofs.point_set.KdPoints.new.Goals as goal
 
 pub invariant_of-result : goal.invariant_of-result

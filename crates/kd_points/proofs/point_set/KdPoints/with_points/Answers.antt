@@ -1,7 +1,7 @@
 use Rattle.std.proofs.Common.{subst}
 use Rattle.kd_points.specs.PointsState.{added_points}
-use Rattle.kd_points.specs.Rebuilding.{IsMadeOf}
-use Rattle.kd_points.proofs.rebuilds.Choosing.{made_state}
+use Rattle.point_trees.specs.Rebuilding.{IsMadeOf}
+use Rattle.kd_points.proofs.lists.Choosing.{made_state}
 use Rattle.kd_points.proofs.point_set.KdPoints.with_points.Goals as goal
 
 pub returns-clause-state : goal.returns-clause-state

@@ -1,3 +1,0 @@
-pub mod Basics
-pub mod StateRows
-pub mod Counts

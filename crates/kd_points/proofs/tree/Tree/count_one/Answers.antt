@@ -1,9 +1,0 @@
-use Rattle.std.proofs.Common.{arith}
-use Rattle.kd_points.specs.TreeStates.{node_at}
-use Rattle.kd_points.proofs.states.Counts.{count-most}
-use Rattle.kd_points.proofs.tree.Tree.count_one.Goals as goal
-
-pub prove-unreachable-requires : goal.prove-unreachable-requires
-prove-unreachable-requires c =
-    let most = count-most (node_at c.args.self.now) c.args.self.now.numbers.entries in
-    omega arith

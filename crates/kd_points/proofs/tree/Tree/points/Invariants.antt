@@ -1,6 +1,0 @@
-use Rattle.kd_points.proofs.rebuilds.Walks.{Walked}
-use Rattle.kd_points.proofs.tree.Tree.points.Given as goal
-
-abbrev pub invariant-loop-key : goal.invariant-loop-key
-invariant-loop-key l =
-    (goal.iterator-loop-key).can_next l.key-iterator × (goal.iterator-loop-key).is_finite l.key-iterator × Walked l.self l.spots.items l.key-iterator

@@ -1,0 +1,5 @@
+pub mod states
+pub mod trees
+pub mod searches
+pub mod rebuilds
+pub mod CallerLemmas

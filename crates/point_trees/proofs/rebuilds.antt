@@ -1,0 +1,4 @@
+pub mod Gathering
+pub mod Halves
+pub mod Walks
+pub mod Heights

@@ -1,0 +1,4 @@
+pub mod Basics
+pub mod StateRows
+pub mod Counts
+pub mod TreePlaces

@@ -1,0 +1,5 @@
+pub mod Trees
+pub mod TreeStates
+pub mod Searches
+pub mod Rebuilding
+pub mod NearestPoints
