@@ -7,4 +7,5 @@ pub mod Bodies
 pub mod SharedTurns
 pub mod TurnMoves
 pub mod Turns
+pub mod Answers
 pub mod EventViews

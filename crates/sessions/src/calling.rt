@@ -2,16 +2,18 @@ ghost use Rattle.std.specs.Prelude.{◌≡◌, ◌∷◌, ◌++◌, ◌<◌, [],
 ghost use Rattle.gx_base.specs.declared.acts.Step.{Step};
 ghost use Rattle.gate_core.specs.CallAnswers.{GateRefusalFits, IsAdmitted};
 ghost use Rattle.commit_book.specs.SerialRuns.{operator_of};
+ghost use Rattle.sessions.specs.Answers.{answered};
 ghost use Rattle.sessions.specs.Bodies.{IsAtWork, HasAsked, IsNoted};
 ghost use Rattle.sessions.specs.Places.{gate_of, IsFit, IsGateValue};
 ghost use Rattle.sessions.specs.SessionViews.{core_of, view_of};
 ghost use Rattle.sessions.specs.Turns.{TakesTurn};
 
+use crate::answers::Brief;
 use crate::entering::{enter_value, leave_value};
-use crate::events::{Event, Stop};
+use crate::events::Stop;
 use crate::session::{Phase, Session};
 use commit_book::Operator;
-use gate_core::{GateRefuse, Screen};
+use gate_core::{GateRefuse, Screen, Told};
 use gx_base::{Call, Item, NoMemory, Reply, Room, SeqType, Step};
 use rooms::{Rooms, Value};
 use std::mem;
@@ -46,15 +48,16 @@ impl<O: Operator> Session<O> {
         &mut self,
         rooms: &mut R,
         op: &O,
-    ) -> Result<Event, Stop>
+        told: &mut Option<Told>,
+    ) -> Result<Brief, Stop>
         requires unordered { O.is_ordered op.now ≡ false }
         requires fit { IsFit (operator_of O.Operator op.now) (R.view rooms.old) (view_of (O.rest op.now) self.old) }
         requires work { IsAtWork self.old.phase }
-        ensures turn { TakesTurn (operator_of O.Operator op.now) (R.view rooms.old) (R.view rooms.new) (view_of (O.rest op.now) self.old) (view_of (O.rest op.now) self.new) result }
+        ensures turn { TakesTurn (operator_of O.Operator op.now) (R.view rooms.old) (R.view rooms.new) (view_of (O.rest op.now) self.old) (view_of (O.rest op.now) self.new) (answered result told.new) }
         ensures loan { R.loan rooms.new ≡ R.loan rooms.old }
     {
         match self.ask_on(op) {
-            Ok(Some((room, call))) => self.call(rooms, op, room, call),
+            Ok(Some((room, call))) => self.call(rooms, op, room, call, told),
             Ok(None) => self.finish(rooms, op),
             Err(NoMemory) => self.stop(rooms, Stop::NoMemory),
         }
@@ -68,30 +71,32 @@ impl<O: Operator> Session<O> {
         _op: &O,
         room: Room,
         call: Call,
-    ) -> Result<Event, Stop>
+        told: &mut Option<Told>,
+    ) -> Result<Brief, Stop>
         requires unordered { O.is_ordered _op.now ≡ false }
         requires fit { IsFit (operator_of O.Operator _op.now) (R.view rooms.old) (view_of (O.rest _op.now) self.old) }
         requires asking { HasAsked (Some (room, call)) self.old.phase }
-        ensures turn { TakesTurn (operator_of O.Operator _op.now) (R.view rooms.old) (R.view rooms.new) (view_of (O.rest _op.now) self.old) (view_of (O.rest _op.now) self.new) result }
+        ensures turn { TakesTurn (operator_of O.Operator _op.now) (R.view rooms.old) (R.view rooms.new) (view_of (O.rest _op.now) self.old) (view_of (O.rest _op.now) self.new) (answered result told.new) }
         ensures loan { R.loan rooms.new ≡ R.loan rooms.old }
     {
         if self.log.reserve(1).is_err() {
             return self.stop(rooms, Stop::NoMemory);
         }
         let Some(mut value) = enter_value(rooms, room) else {
-            return Ok(Event::Busy);
+            return Ok(Brief::Busy);
         };
         let answer = call_in(&mut value, self.worker, self.iter, self.item, call);
         leave_value(rooms, room, value);
         match answer {
             Ok(reply) => {
                 self.note(room, call, reply);
-                Ok(Event::Call { room, call, reply })
+                Ok(Brief::Call { room, call, reply })
             }
             Err(refuse) => match refuse {
-                GateRefuse::Conflict(told) => {
+                GateRefuse::Conflict(found) => {
+                    *told = Some(found);
                     self.give_up(rooms);
-                    Ok(Event::Conflict { room, told })
+                    Ok(Brief::Conflict { room })
                 }
                 GateRefuse::NoMemory => self.stop(rooms, Stop::NoMemory),
             },

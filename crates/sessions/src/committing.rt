@@ -1,8 +1,10 @@
-ghost use Rattle.std.specs.Prelude.{◌≡◌, [], true, false, length, Ok, IfOk, OnOk, OnErr};
+ghost use Rattle.std.specs.Prelude.{◌≡◌, [], true, false, length, Option, Ok, IfOk, OnOk, OnErr};
 ghost use Rattle.commit_book.specs.BookViews.{commit, put_back};
 ghost use Rattle.commit_book.specs.LawfulBooks.{refusal};
 ghost use Rattle.commit_book.specs.SerialRuns.{operator_of};
 ghost use Rattle.speculation.specs.Sessions.{has_no_step};
+ghost use Rattle.gate_core.specs.declared.refusals.Told.{Told};
+ghost use Rattle.sessions.specs.Answers.{answered, event_in};
 ghost use Rattle.sessions.specs.Bodies.{IsCommitting};
 ghost use Rattle.sessions.specs.Places.{IsFit};
 ghost use Rattle.sessions.specs.RoomLists.{rooms_of};
@@ -11,8 +13,9 @@ ghost use Rattle.sessions.specs.Turns.{TakesTurn};
 ghost use Rattle.sessions.specs.Visits.{AreReleased, MayRelease, IsReleaseCutShort, MayAnswer, answer_to, gives_up, pushes_kept};
 ghost use Rattle.sessions.specs.declared.session.Phase.TheVariants as phases;
 
+use crate::answers::Brief;
 use crate::entering::{enter_book, enter_gate, leave_book, leave_gate};
-use crate::events::{Event, Stop};
+use crate::events::Stop;
 use crate::releases::Releases;
 use crate::session::{Phase, Session};
 use crate::undoing::has_no_step;
@@ -52,19 +55,20 @@ fn release_all<R: Rooms<Value<T, S>>, T: SeqType, S: Screen<T>>(
 
 impl<O: Operator> Session<O> {
     /// A finished session commits, unless the book refuses.
+    #[inline(never)]
     pub(crate) fn finish<R: Rooms<Value<T, S>>, T: SeqType, S: Screen<T>>(
         &mut self,
         rooms: &mut R,
         op: &O,
-    ) -> Result<Event, Stop>
+    ) -> Result<Brief, Stop>
         requires unordered { O.is_ordered op.now ≡ false }
         requires fit { IsFit (operator_of O.Operator op.now) (R.view rooms.old) (view_of (O.rest op.now) self.old) }
         requires phase { self.old.phase ≡ phases.Finished }
-        ensures turn { TakesTurn (operator_of O.Operator op.now) (R.view rooms.old) (R.view rooms.new) (view_of (O.rest op.now) self.old) (view_of (O.rest op.now) self.new) result }
+        ensures turn { (told : Option Told) → TakesTurn (operator_of O.Operator op.now) (R.view rooms.old) (R.view rooms.new) (view_of (O.rest op.now) self.old) (view_of (O.rest op.now) self.new) (answered result told) }
         ensures loan { R.loan rooms.new ≡ R.loan rooms.old }
     {
         match enter_book(rooms) {
-            None => Ok(Event::Busy),
+            None => Ok(Brief::Busy),
             Some(mut book) => {
                 book.nobody_is_named();
                 match self.commit_in(&mut book) {
@@ -80,8 +84,8 @@ impl<O: Operator> Session<O> {
     }
 
     // What the session does in a book that refuses its commit, and answers.
-    fn refused_in(&mut self, book: &mut Book, refuse: CommitRefuse) -> Result<Event, Stop>
-        ensures answer { result ≡ answer_to refuse }
+    fn refused_in(&mut self, book: &mut Book, refuse: CommitRefuse) -> Result<Brief, Stop>
+        ensures answer { (told : Option Told) → answered result told ≡ answer_to refuse }
         ensures kept { (book.new.ordered ≡ book.old.ordered) × (book.new.commits ≡ book.old.commits) }
         ensures waits { gives_up refuse ≡ false → (book.new ≡ book.old) × (core_of self.new ≡ core_of self.old) × (self.new.phase ≡ self.old.phase) }
         ensures calls { gives_up refuse ≡ true → has_no_step self.old.log.items ≡ false → (book.new ≡ book.old) × (core_of self.new ≡ record (core_of self.old) { pushes = pushes_kept refuse self.old.pushes.items }) × (self.new.phase ≡ phases.Undoing) }
@@ -90,9 +94,9 @@ impl<O: Operator> Session<O> {
         match refuse {
             CommitRefuse::NotReady => {
                 self.give_up_in(book);
-                Ok(Event::Drop)
+                Ok(Brief::Drop)
             }
-            CommitRefuse::NotLeast { .. } => Ok(Event::Wait),
+            CommitRefuse::NotLeast { .. } => Ok(Brief::Wait),
             CommitRefuse::Spent => {
                 self.stop_in(book);
                 Err(Stop::Spent)
@@ -144,19 +148,20 @@ impl<O: Operator> Session<O> {
     }
 
     /// A committing session goes on with its releases.
+    #[inline(never)]
     pub(crate) fn release_on<R: Rooms<Value<T, S>>, T: SeqType, S: Screen<T>>(
         &mut self,
         rooms: &mut R,
         op: &O,
-    ) -> Event
+    ) -> Brief
         requires fit { IsFit (operator_of O.Operator op.now) (R.view rooms.old) (view_of (O.rest op.now) self.old) }
         requires phase { IsCommitting self.old.phase }
-        ensures turn { TakesTurn (operator_of O.Operator op.now) (R.view rooms.old) (R.view rooms.new) (view_of (O.rest op.now) self.old) (view_of (O.rest op.now) self.new) (Ok result) }
+        ensures turn { (told : Option Told) → TakesTurn (operator_of O.Operator op.now) (R.view rooms.old) (R.view rooms.new) (view_of (O.rest op.now) self.old) (view_of (O.rest op.now) self.new) (Ok (event_in result told)) }
         ensures loan { R.loan rooms.new ≡ R.loan rooms.old }
     {
         match mem::replace(&mut self.phase, Phase::Idle) {
             Phase::Committing { book, number, left } => self.release(rooms, op, book, number, left),
-            _ => Event::Busy,
+            _ => Brief::Busy,
         }
     }
 
@@ -168,20 +173,20 @@ impl<O: Operator> Session<O> {
         book: Book,
         number: u64,
         mut left: Releases,
-    ) -> Event
+    ) -> Brief
         requires fit { IsFit (operator_of O.Operator _op.now) (R.view rooms.old) (view_in (O.rest _op.now) (core_of self.old) (phases.Committing book number left)) }
-        ensures turn { TakesTurn (operator_of O.Operator _op.now) (R.view rooms.old) (R.view rooms.new) (view_in (O.rest _op.now) (core_of self.old) (phases.Committing book number left)) (view_of (O.rest _op.now) self.new) (Ok result) }
+        ensures turn { (told : Option Told) → TakesTurn (operator_of O.Operator _op.now) (R.view rooms.old) (R.view rooms.new) (view_in (O.rest _op.now) (core_of self.old) (phases.Committing book number left)) (view_of (O.rest _op.now) self.new) (Ok (event_in result told)) }
         ensures loan { R.loan rooms.new ≡ R.loan rooms.old }
     {
         // A book has few enough commits that each number is small. For proofs: it does nothing.
         let _commits = book.commits();
         if !release_all(rooms, self.worker, self.iter, number, &mut left) {
             self.phase = Phase::Committing { book, number, left };
-            return Event::Busy;
+            return Brief::Busy;
         }
         leave_book(rooms, book);
         mem::swap(&mut self.pushes, &mut self.pushed);
         self.end();
-        Event::Commit { number }
+        Brief::Commit { number }
     }
 }

@@ -12,6 +12,7 @@
 //! phase has a file: `taking`, `calling`, `committing`, `undoing`; `entering` is the one that enters and leaves rooms.
 #![tactic(auto)]
 
+mod answers;
 mod bodies;
 mod calling;
 mod committing;

@@ -1,14 +1,16 @@
 ghost use Rattle.std.specs.Prelude.{◌≡◌, [], None, false, length};
 ghost use Rattle.commit_book.specs.SerialRuns.{operator_of};
+ghost use Rattle.sessions.specs.Answers.{answered};
 ghost use Rattle.sessions.specs.Places.{IsFit};
 ghost use Rattle.sessions.specs.SessionViews.{view_of, begun_view, is_idle_view, with_left_off};
-ghost use Rattle.sessions.specs.Turns.{HasTurned};
+ghost use Rattle.sessions.specs.Turns.{HasTurned, TakesTurn};
 ghost use Rattle.sessions.specs.declared.session.Phase.TheVariants as phases;
 
+use crate::answers::{Brief, answer};
 use crate::events::{Event, Stop};
 use crate::releases::Releases;
 use commit_book::{Book, Operator};
-use gate_core::Screen;
+use gate_core::{Screen, Told};
 use gx_base::{Call, Item, Reply, Room, SeqType, Step};
 use rooms::{Rooms, Value};
 use std::alloc::Global;
@@ -114,6 +116,7 @@ impl<O: Operator> Session<O> {
     }
 
     /// One turn, which never waits: where it needs a room that another caller holds, it is `Busy`, or is cut short there.
+    #[inline(always)]
     pub fn turn<R: Rooms<Value<T, S>>, T: SeqType, S: Screen<T>>(
         &mut self,
         rooms: &mut R,
@@ -125,10 +128,27 @@ impl<O: Operator> Session<O> {
         ensures fit { IsFit (operator_of O.Operator op.now) (R.view rooms.new) (view_of (O.rest op.now) self.new) }
         ensures loan { R.loan rooms.new ≡ R.loan rooms.old }
     {
+        let mut told = None;
+        let brief = self.brief_turn(rooms, op, &mut told);
+        answer(brief, told)
+    }
+    // One turn, with what a conflict tells apart from what it answers.
+    #[inline(always)]
+    fn brief_turn<R: Rooms<Value<T, S>>, T: SeqType, S: Screen<T>>(
+        &mut self,
+        rooms: &mut R,
+        op: &O,
+        told: &mut Option<Told>,
+    ) -> Result<Brief, Stop>
+        requires unordered { O.is_ordered op.now ≡ false }
+        requires fit { IsFit (operator_of O.Operator op.now) (R.view rooms.old) (view_of (O.rest op.now) self.old) }
+        ensures turn { TakesTurn (operator_of O.Operator op.now) (R.view rooms.old) (R.view rooms.new) (view_of (O.rest op.now) self.old) (view_of (O.rest op.now) self.new) (answered result told.new) }
+        ensures loan { R.loan rooms.new ≡ R.loan rooms.old }
+    {
         match self.phase {
             Phase::Idle => self.take(rooms, op),
-            Phase::Running { .. } => self.go(rooms, op),
-            Phase::Asking { .. } => self.go(rooms, op),
+            Phase::Running { .. } => self.go(rooms, op, told),
+            Phase::Asking { .. } => self.go(rooms, op, told),
             Phase::Finished => self.finish(rooms, op),
             Phase::Committing { .. } => Ok(self.release_on(rooms, op)),
             Phase::Undoing => Ok(self.undo(rooms, op)),

@@ -1,18 +1,21 @@
-ghost use Rattle.std.specs.Prelude.{◌≡◌, ◌<◌, [], true, false, length, ◌≢◌, Some, None, Ok, Err};
+ghost use Rattle.std.specs.Prelude.{◌≡◌, ◌<◌, [], true, false, length, ◌≢◌, Option, Some, None, Ok, Err};
 ghost use Rattle.commit_book.specs.BookViews.{BookView, put_back};
 ghost use Rattle.commit_book.specs.SerialRuns.{operator_of};
 ghost use Rattle.gate_core.specs.Views.{GateView, undo_last};
 ghost use Rattle.rooms.specs.HandedOut.{IsLost};
 ghost use Rattle.rooms.specs.RoomsViews.{is_room_held};
 ghost use Rattle.speculation.specs.Sessions.{last_step, steps_before, has_no_step};
+ghost use Rattle.gate_core.specs.declared.refusals.Told.{Told};
+ghost use Rattle.sessions.specs.Answers.{event_in};
 ghost use Rattle.sessions.specs.Places.{IsFit};
 ghost use Rattle.sessions.specs.SessionViews.{core_of, view_of};
 ghost use Rattle.sessions.specs.Turns.{TakesTurn};
 ghost use Rattle.sessions.specs.Visits.{WasVisited, BookWasVisited, GaveUp};
 ghost use Rattle.sessions.specs.declared.session.Phase.TheVariants as phases;
 
+use crate::answers::Brief;
 use crate::entering::{enter_book, enter_gate, leave_book, leave_gate};
-use crate::events::{Event, Stop};
+use crate::events::Stop;
 use crate::session::{Phase, Session};
 use commit_book::Operator;
 use gate_core::Screen;
@@ -115,7 +118,7 @@ impl<O: Operator> Session<O> {
         &mut self,
         rooms: &mut R,
         stop: Stop,
-    ) -> Result<Event, Stop>
+    ) -> Result<Brief, Stop>
         requires { is_room_held (R.view rooms.old) (R.view rooms.old).book ≡ false }
         ensures gave_up { GaveUp (R.view rooms.old) (R.view rooms.new) (record (core_of self.old) { pushes = [] }) (core_of self.new) self.new.phase }
         ensures stop { result ≡ Err stop }
@@ -127,14 +130,15 @@ impl<O: Operator> Session<O> {
     }
 
     /// Takes back the last call. With the only one, or where there is none left, it puts the item back. Takes no memory.
+    #[inline(never)]
     pub(crate) fn undo<R: Rooms<Value<T, S>>, T: SeqType, S: Screen<T>>(
         &mut self,
         rooms: &mut R,
         op: &O,
-    ) -> Event
+    ) -> Brief
         requires fit { IsFit (operator_of O.Operator op.now) (R.view rooms.old) (view_of (O.rest op.now) self.old) }
         requires phase { self.old.phase ≡ phases.Undoing }
-        ensures turn { TakesTurn (operator_of O.Operator op.now) (R.view rooms.old) (R.view rooms.new) (view_of (O.rest op.now) self.old) (view_of (O.rest op.now) self.new) (Ok result) }
+        ensures turn { (told : Option Told) → TakesTurn (operator_of O.Operator op.now) (R.view rooms.old) (R.view rooms.new) (view_of (O.rest op.now) self.old) (view_of (O.rest op.now) self.new) (Ok (event_in result told)) }
         ensures loan { R.loan rooms.new ≡ R.loan rooms.old }
     {
         match last_of(&self.log) {
@@ -153,17 +157,17 @@ impl<O: Operator> Session<O> {
         &mut self,
         rooms: &mut R,
         _op: &O,
-    ) -> Event
+    ) -> Brief
         requires fit { IsFit (operator_of O.Operator _op.now) (R.view rooms.old) (view_of (O.rest _op.now) self.old) }
         requires phase { self.old.phase ≡ phases.Undoing }
         requires none { last_step self.old.log.items ≡ None }
-        ensures turn { TakesTurn (operator_of O.Operator _op.now) (R.view rooms.old) (R.view rooms.new) (view_of (O.rest _op.now) self.old) (view_of (O.rest _op.now) self.new) (Ok result) }
+        ensures turn { (told : Option Told) → TakesTurn (operator_of O.Operator _op.now) (R.view rooms.old) (R.view rooms.new) (view_of (O.rest _op.now) self.old) (view_of (O.rest _op.now) self.new) (Ok (event_in result told)) }
         ensures loan { R.loan rooms.new ≡ R.loan rooms.old }
     {
         if self.put_back(rooms) {
-            Event::Idle
+            Brief::Idle
         } else {
-            Event::Busy
+            Brief::Busy
         }
     }
 
@@ -172,20 +176,20 @@ impl<O: Operator> Session<O> {
         rooms: &mut R,
         _op: &O,
         last: Step,
-    ) -> Event
+    ) -> Brief
         requires fit { IsFit (operator_of O.Operator _op.now) (R.view rooms.old) (view_of (O.rest _op.now) self.old) }
         requires phase { self.old.phase ≡ phases.Undoing }
         requires last { last_step self.old.log.items ≡ Some last }
         requires others { length self.old.log.items ≢ 1 }
-        ensures turn { TakesTurn (operator_of O.Operator _op.now) (R.view rooms.old) (R.view rooms.new) (view_of (O.rest _op.now) self.old) (view_of (O.rest _op.now) self.new) (Ok result) }
+        ensures turn { (told : Option Told) → TakesTurn (operator_of O.Operator _op.now) (R.view rooms.old) (R.view rooms.new) (view_of (O.rest _op.now) self.old) (view_of (O.rest _op.now) self.new) (Ok (event_in result told)) }
         ensures loan { R.loan rooms.new ≡ R.loan rooms.old }
     {
         if !undo_in(rooms, last.room, self.worker, self.iter) {
-            return Event::Busy;
+            return Brief::Busy;
         }
         drop_last(&mut self.log);
         self.pushes.clear();
-        Event::Undo {
+        Brief::Undo {
             room: last.room,
             call: last.call,
         }
@@ -196,25 +200,25 @@ impl<O: Operator> Session<O> {
         rooms: &mut R,
         _op: &O,
         last: Step,
-    ) -> Event
+    ) -> Brief
         requires fit { IsFit (operator_of O.Operator _op.now) (R.view rooms.old) (view_of (O.rest _op.now) self.old) }
         requires phase { self.old.phase ≡ phases.Undoing }
         requires last { last_step self.old.log.items ≡ Some last }
         requires only { length self.old.log.items ≡ 1 }
-        ensures turn { TakesTurn (operator_of O.Operator _op.now) (R.view rooms.old) (R.view rooms.new) (view_of (O.rest _op.now) self.old) (view_of (O.rest _op.now) self.new) (Ok result) }
+        ensures turn { (told : Option Told) → TakesTurn (operator_of O.Operator _op.now) (R.view rooms.old) (R.view rooms.new) (view_of (O.rest _op.now) self.old) (view_of (O.rest _op.now) self.new) (Ok (event_in result told)) }
         ensures loan { R.loan rooms.new ≡ R.loan rooms.old }
     {
         match enter_book(rooms) {
-            None => Event::Busy,
+            None => Brief::Busy,
             Some(mut book) => {
                 if !undo_in(rooms, last.room, self.worker, self.iter) {
                     leave_book(rooms, book);
-                    return Event::Busy;
+                    return Brief::Busy;
                 }
                 book.put_back(self.worker, self.iter);
                 leave_book(rooms, book);
                 self.end();
-                Event::Undo {
+                Brief::Undo {
                     room: last.room,
                     call: last.call,
                 }

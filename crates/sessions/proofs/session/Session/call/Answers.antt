@@ -4,6 +4,7 @@ use Rattle.gx_base.specs.declared.calls.Reply.{Reply}
 use Rattle.gate_core.specs.CallAnswers.{GateRefusalFits, IsAdmitted}
 use Rattle.gate_core.specs.declared.refusals.GateRefuse.{GateRefuse}
 use Rattle.commit_book.specs.SerialRuns.{operator_of}
+use Rattle.sessions.specs.Answers.{answered}
 use Rattle.sessions.specs.Places.{gate_of}
 use Rattle.sessions.specs.SessionViews.{core_of, view_of}
 use Rattle.sessions.specs.Turns.{TakesTurn}
@@ -21,7 +22,7 @@ returns-then-is_err-clause-turn g c =
     let ask = asking_as c.args.room c.args.call c.args.self.now.phase c.requires.asking in
     let gave_up : GaveUp (g.R.Rooms.view c.args.rooms.now) (g.R.Rooms.view c.stop.new.rooms) (record (core_of c.args.self.now) { pushes = [] }) (core_of c.stop.new.self) c.stop.new.self.phase =
     subst (λ (log : List Step). GaveUp (g.R.Rooms.view c.args.rooms.now) (g.R.Rooms.view c.stop.new.rooms) (record (core_of c.args.self.now) { log = log; pushes = [] }) (core_of c.stop.new.self) c.stop.new.self.phase) c.reserve.ensures.items c.stop.ensures.gave_up in
-    subst (λ r. TakesTurn (operator_of g.O.Operator c.args._op.now) (g.R.Rooms.view c.args.rooms.now) (g.R.Rooms.view c.stop.new.rooms) (view_of (g.O.Operator.rest c.args._op.now) c.args.self.now) (view_of (g.O.Operator.rest c.args._op.now) c.stop.new.self) r) (sym c.stop.ensures.stop)
+    subst (λ r. TakesTurn (operator_of g.O.Operator c.args._op.now) (g.R.Rooms.view c.args.rooms.now) (g.R.Rooms.view c.stop.new.rooms) (view_of (g.O.Operator.rest c.args._op.now) c.args.self.now) (view_of (g.O.Operator.rest c.args._op.now) c.stop.new.self) (answered r c.args.told.now)) (sym c.stop.ensures.stop)
     (shown (operator_of g.O.Operator c.args._op.now) (g.R.Rooms.view c.args.rooms.now) (g.R.Rooms.view c.stop.new.rooms) (g.O.Operator.rest c.args._op.now) (core_of c.args.self.now) (core_of c.stop.new.self) (core_of c.stop.new.self) c.args.self.now.phase (code.Asking ask.0 c.args.room c.args.call) c.stop.new.self.phase c.stop.new.self.phase (Err stops.NoMemory) ask.1 refl refl
     (λ fit. stop_turn (operator_of g.O.Operator c.args._op.now) (g.R.Rooms.view c.args.rooms.now) (g.R.Rooms.view c.stop.new.rooms) (g.O.Operator.rest c.args._op.now) (core_of c.args.self.now) ask.0 c.args.room c.args.call (core_of c.stop.new.self) c.stop.new.self.phase fit gave_up)
     c.requires.fit)
@@ -54,8 +55,8 @@ returns-in-Conflict-clause-turn g c =
     let gave_up : GaveUp (g.R.Rooms.view c.leave_value.new.rooms) (g.R.Rooms.view c.give_up.new.rooms) (core_of c.args.self.now) (core_of c.give_up.new.self) c.give_up.new.self.phase =
     subst (λ (log : List Step). GaveUp (g.R.Rooms.view c.leave_value.new.rooms) (g.R.Rooms.view c.give_up.new.rooms) (record (core_of c.args.self.now) { log = log }) (core_of c.give_up.new.self) c.give_up.new.self.phase) c.reserve.ensures.items c.give_up.ensures.gave_up in
     shown (operator_of g.O.Operator c.args._op.now) (g.R.Rooms.view c.args.rooms.now) (g.R.Rooms.view c.give_up.new.rooms) (g.O.Operator.rest c.args._op.now) (core_of c.args.self.now) (core_of c.give_up.new.self) (core_of c.give_up.new.self) c.args.self.now.phase (code.Asking ask.0 c.args.room c.args.call) c.give_up.new.self.phase c.give_up.new.self.phase
-    (Ok (events.Conflict c.args.room c.in-Conflict.told)) ask.1 refl refl
-    (λ fit. conflict_turn (operator_of g.O.Operator c.args._op.now) (g.R.Rooms.view c.args.rooms.now) (g.R.Rooms.view c.give_up.new.rooms) (g.O.Operator.rest c.args._op.now) (core_of c.args.self.now) ask.0 c.args.room c.args.call (g.R.Rooms.view c.leave_value.new.rooms) (core_of c.give_up.new.self) c.give_up.new.self.phase c.requires.unordered fit (gate_of c.in-Some.value) c.in-Conflict.told refused.0.0
+    (Ok (events.Conflict c.args.room c.in-Conflict.found)) ask.1 refl refl
+    (λ fit. conflict_turn (operator_of g.O.Operator c.args._op.now) (g.R.Rooms.view c.args.rooms.now) (g.R.Rooms.view c.give_up.new.rooms) (g.O.Operator.rest c.args._op.now) (core_of c.args.self.now) ask.0 c.args.room c.args.call (g.R.Rooms.view c.leave_value.new.rooms) (core_of c.give_up.new.self) c.give_up.new.self.phase c.requires.unordered fit (gate_of c.in-Some.value) c.in-Conflict.found refused.0.0
     (value_visited (g.R.Rooms.view c.args.rooms.now) (g.R.Rooms.view c.enter_value.new.rooms) (g.R.Rooms.view c.leave_value.new.rooms) c.args.room c.in-Some.value c.call_in-answer.new.value (gate_of c.in-Some.value) c.in-Some.ensures.is_gate c.call_in-answer.ensures.gate c.in-Some.ensures.gate c.in-Some.ensures.some c.leave_value.ensures.view refused.1) refused.0.1 gave_up)
     c.requires.fit
 
@@ -66,7 +67,7 @@ returns-in-NoMemory-clause-turn g c =
     let ask = asking_as c.args.room c.args.call c.args.self.now.phase c.requires.asking in
     let gave_up : GaveUp (g.R.Rooms.view c.leave_value.new.rooms) (g.R.Rooms.view c.stop-in-NoMemory.new.rooms) (record (core_of c.args.self.now) { pushes = [] }) (core_of c.stop-in-NoMemory.new.self) c.stop-in-NoMemory.new.self.phase =
     subst (λ (log : List Step). GaveUp (g.R.Rooms.view c.leave_value.new.rooms) (g.R.Rooms.view c.stop-in-NoMemory.new.rooms) (record (core_of c.args.self.now) { log = log; pushes = [] }) (core_of c.stop-in-NoMemory.new.self) c.stop-in-NoMemory.new.self.phase) c.reserve.ensures.items c.stop-in-NoMemory.ensures.gave_up in
-    subst (λ r. TakesTurn (operator_of g.O.Operator c.args._op.now) (g.R.Rooms.view c.args.rooms.now) (g.R.Rooms.view c.stop-in-NoMemory.new.rooms) (view_of (g.O.Operator.rest c.args._op.now) c.args.self.now) (view_of (g.O.Operator.rest c.args._op.now) c.stop-in-NoMemory.new.self) r) (sym c.stop-in-NoMemory.ensures.stop)
+    subst (λ r. TakesTurn (operator_of g.O.Operator c.args._op.now) (g.R.Rooms.view c.args.rooms.now) (g.R.Rooms.view c.stop-in-NoMemory.new.rooms) (view_of (g.O.Operator.rest c.args._op.now) c.args.self.now) (view_of (g.O.Operator.rest c.args._op.now) c.stop-in-NoMemory.new.self) (answered r c.args.told.now)) (sym c.stop-in-NoMemory.ensures.stop)
     (shown (operator_of g.O.Operator c.args._op.now) (g.R.Rooms.view c.args.rooms.now) (g.R.Rooms.view c.stop-in-NoMemory.new.rooms) (g.O.Operator.rest c.args._op.now) (core_of c.args.self.now) (core_of c.stop-in-NoMemory.new.self) (core_of c.stop-in-NoMemory.new.self) c.args.self.now.phase (code.Asking ask.0 c.args.room c.args.call) c.stop-in-NoMemory.new.self.phase c.stop-in-NoMemory.new.self.phase (Err stops.NoMemory) ask.1 refl refl
     (λ fit. stop_in_gate (operator_of g.O.Operator c.args._op.now) (g.R.Rooms.view c.args.rooms.now) (g.R.Rooms.view c.stop-in-NoMemory.new.rooms) (g.O.Operator.rest c.args._op.now) (core_of c.args.self.now) ask.0 c.args.room c.args.call (g.R.Rooms.view c.leave_value.new.rooms) (core_of c.stop-in-NoMemory.new.self) c.stop-in-NoMemory.new.self.phase fit (gate_of c.in-Some.value)
     (value_visited (g.R.Rooms.view c.args.rooms.now) (g.R.Rooms.view c.enter_value.new.rooms) (g.R.Rooms.view c.leave_value.new.rooms) c.args.room c.in-Some.value c.call_in-answer.new.value (gate_of c.in-Some.value) c.in-Some.ensures.is_gate c.call_in-answer.ensures.gate c.in-Some.ensures.gate c.in-Some.ensures.some c.leave_value.ensures.view refused) gave_up)

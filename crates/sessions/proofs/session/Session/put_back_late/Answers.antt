@@ -8,7 +8,7 @@ use Rattle.sessions.proofs.UndoTurns.{over, put_back_late, put_back_lost}
 use Rattle.sessions.proofs.session.Session.put_back_late.Goals as goal
 
 pub returns-then-put_back-clause-turn : goal.returns-then-put_back-clause-turn
-returns-then-put_back-clause-turn g c =
+returns-then-put_back-clause-turn g c told =
     let visited = c.put_back.ensures.visited c.if-put_back.true in
     let over_is = c.put_back.ensures.over c.if-put_back.true in
     shown (operator_of g.O.Operator c.args._op.now) (g.R.Rooms.view c.args.rooms.now) (g.R.Rooms.view c.put_back.new.rooms) (g.O.Operator.rest c.args._op.now) (core_of c.args.self.now) (core_of c.put_back.new.self) (over (core_of c.args.self.now))
@@ -17,7 +17,7 @@ returns-then-put_back-clause-turn g c =
     c.requires.fit
 
 pub returns-else-put_back-clause-turn : goal.returns-else-put_back-clause-turn
-returns-else-put_back-clause-turn g c =
+returns-else-put_back-clause-turn g c told =
     let lost = c.put_back.ensures.lost c.if-put_back.false in
     shown (operator_of g.O.Operator c.args._op.now) (g.R.Rooms.view c.args.rooms.now) (g.R.Rooms.view c.put_back.new.rooms) (g.O.Operator.rest c.args._op.now) (core_of c.args.self.now) (core_of c.put_back.new.self) (core_of c.args.self.now)
     c.args.self.now.phase code.Undoing c.put_back.new.self.phase code.Undoing (Ok events.Busy) c.requires.phase lost.1 (lost.2 ∙ c.requires.phase)

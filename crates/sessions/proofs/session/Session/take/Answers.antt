@@ -11,20 +11,20 @@ use Rattle.sessions.proofs.TakeTurns.{take_lost, take_none, take_some, take_stop
 use Rattle.sessions.proofs.session.Session.take.Goals as goal
 
 pub returns-in-None-clause-turn : goal.returns-in-None-clause-turn
-returns-in-None-clause-turn g c =
+returns-in-None-clause-turn g c told =
     shown (operator_of g.O.Operator c.args.op.now) (g.R.Rooms.view c.args.rooms.now) (g.R.Rooms.view c.enter_book.new.rooms) (g.O.Operator.rest c.args.op.now) (core_of c.args.self.now) (core_of c.args.self.now) (core_of c.args.self.now) c.args.self.now.phase code.Idle c.args.self.now.phase code.Idle (Ok events.Busy) c.requires.phase refl c.requires.phase
     (λ fit. take_lost (operator_of g.O.Operator c.args.op.now) (g.R.Rooms.view c.args.rooms.now) (g.R.Rooms.view c.enter_book.new.rooms) (g.O.Operator.rest c.args.op.now) (core_of c.args.self.now) fit c.in-None.ensures.none)
     c.requires.fit
 
 pub returns-in-Err-clause-turn : goal.returns-in-Err-clause-turn
-returns-in-Err-clause-turn g c =
+returns-in-Err-clause-turn g c told =
     shown (operator_of g.O.Operator c.args.op.now) (g.R.Rooms.view c.args.rooms.now) (g.R.Rooms.view c.leave_book.new.rooms) (g.O.Operator.rest c.args.op.now) (core_of c.args.self.now) (core_of c.args.self.now) (core_of c.args.self.now) c.args.self.now.phase code.Idle c.args.self.now.phase code.Idle (Err stops.NoMemory) c.requires.phase refl c.requires.phase
     (λ fit. take_stops (operator_of g.O.Operator c.args.op.now) (g.R.Rooms.view c.args.rooms.now) (g.R.Rooms.view c.leave_book.new.rooms) (g.O.Operator.rest c.args.op.now) (core_of c.args.self.now) fit c.in-Some.book
     (book_visited (g.R.Rooms.view c.args.rooms.now) (g.R.Rooms.view c.enter_book.new.rooms) (g.R.Rooms.view c.leave_book.new.rooms) c.in-Some.book c.next_free.new.self c.in-Some.book c.in-Some.ensures.book c.in-Some.ensures.some c.leave_book.ensures.view c.in-Err.ensures.err))
     c.requires.fit
 
 pub returns-in-Ok-None-clause-turn : goal.returns-in-Ok-None-clause-turn
-returns-in-Ok-None-clause-turn g c =
+returns-in-Ok-None-clause-turn g c told =
     let none : free_item c.in-Some.book ≡ None = sym c.in-Ok-None.ensures.item ∙ c.in-Ok-None.field-0-is in
     shown (operator_of g.O.Operator c.args.op.now) (g.R.Rooms.view c.args.rooms.now) (g.R.Rooms.view c.leave_book-in-Ok-None.new.rooms) (g.O.Operator.rest c.args.op.now) (core_of c.args.self.now) (core_of c.args.self.now) (core_of c.args.self.now) c.args.self.now.phase code.Idle c.args.self.now.phase code.Idle (Ok events.Idle) c.requires.phase refl c.requires.phase
     (λ fit. take_none (operator_of g.O.Operator c.args.op.now) (g.R.Rooms.view c.args.rooms.now) (g.R.Rooms.view c.leave_book-in-Ok-None.new.rooms) (g.O.Operator.rest c.args.op.now) (core_of c.args.self.now) fit c.in-Some.book
@@ -32,7 +32,7 @@ returns-in-Ok-None-clause-turn g c =
     c.requires.fit
 
 pub returns-in-Ok-Some-clause-turn : goal.returns-in-Ok-Some-clause-turn
-returns-in-Ok-Some-clause-turn g c =
+returns-in-Ok-Some-clause-turn g c told =
     let found : free_item c.in-Some.book ≡ Some c.in-Ok-Some.item = sym c.in-Ok-Some.ensures.item ∙ c.in-Ok-Some.field-0-is in
     shown (operator_of g.O.Operator c.args.op.now) (g.R.Rooms.view c.args.rooms.now) (g.R.Rooms.view c.leave_book-in-Ok-Some.new.rooms) (g.O.Operator.rest c.args.op.now) (core_of c.args.self.now) (core_of c.begin.new.self) (begins (core_of c.args.self.now) c.in-Ok-Some.item) c.args.self.now.phase code.Idle c.begin.new.self.phase c.begin.new.self.phase (Ok (events.Take c.in-Ok-Some.item)) c.requires.phase
     c.begin.ensures.core refl

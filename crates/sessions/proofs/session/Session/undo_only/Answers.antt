@@ -21,20 +21,20 @@ undo_in-requires-clause-free g c =
     (nothing_held (operator_of g.O.Operator c.args._op.now) (g.R.Rooms.view c.args.rooms.now) (g.R.Rooms.view c.args.rooms.now) (g.O.Operator.rest c.args._op.now) (core_of c.args.self.now) c.args.self.now.phase c.requires.phase c.requires.fit c.args.last.room)
 
 pub returns-then-not-undo_in-clause-turn : goal.returns-then-not-undo_in-clause-turn
-returns-then-not-undo_in-clause-turn g c =
+returns-then-not-undo_in-clause-turn g c told =
     shown (operator_of g.O.Operator c.args._op.now) (g.R.Rooms.view c.args.rooms.now) (g.R.Rooms.view c.leave_book.new.rooms) (g.O.Operator.rest c.args._op.now) (core_of c.args.self.now) (core_of c.args.self.now) (core_of c.args.self.now) c.args.self.now.phase code.Undoing c.args.self.now.phase code.Undoing (Ok events.Busy) c.requires.phase refl c.requires.phase
     (λ fit. undo_only_lost (operator_of g.O.Operator c.args._op.now) (g.R.Rooms.view c.args.rooms.now) (g.R.Rooms.view c.leave_book.new.rooms) (g.O.Operator.rest c.args._op.now) (core_of c.args.self.now) (g.R.Rooms.view c.enter_book.new.rooms) (g.R.Rooms.view c.undo_in.new.rooms) c.in-Some.book c.args.last fit c.requires.last (none_before_only c.args.self.now.log.items c.requires.only) c.in-Some.ensures.book c.in-Some.ensures.some
     (c.undo_in.ensures.lost c.if-not-undo_in.true) c.leave_book.ensures.view)
     c.requires.fit
 
 pub returns-in-None-clause-turn : goal.returns-in-None-clause-turn
-returns-in-None-clause-turn g c =
+returns-in-None-clause-turn g c told =
     shown (operator_of g.O.Operator c.args._op.now) (g.R.Rooms.view c.args.rooms.now) (g.R.Rooms.view c.enter_book.new.rooms) (g.O.Operator.rest c.args._op.now) (core_of c.args.self.now) (core_of c.args.self.now) (core_of c.args.self.now) c.args.self.now.phase code.Undoing c.args.self.now.phase code.Undoing (Ok events.Busy) c.requires.phase refl c.requires.phase
     (λ fit. undo_only_busy (operator_of g.O.Operator c.args._op.now) (g.R.Rooms.view c.args.rooms.now) (g.R.Rooms.view c.enter_book.new.rooms) (g.O.Operator.rest c.args._op.now) (core_of c.args.self.now) fit (none_before_only c.args.self.now.log.items c.requires.only) c.in-None.ensures.none)
     c.requires.fit
 
 pub returns-else-not-undo_in-clause-turn : goal.returns-else-not-undo_in-clause-turn
-returns-else-not-undo_in-clause-turn g c =
+returns-else-not-undo_in-clause-turn g c told =
     let visited = c.undo_in.ensures.visited c.if-not-undo_in.false in
     shown (operator_of g.O.Operator c.args._op.now) (g.R.Rooms.view c.args.rooms.now) (g.R.Rooms.view c.leave_book-in-Some.new.rooms) (g.O.Operator.rest c.args._op.now) (core_of c.args.self.now) (core_of c.end.new.self) (over (core_of c.args.self.now)) c.args.self.now.phase code.Undoing c.end.new.self.phase code.Idle (Ok (events.Undo c.args.last.room c.args.last.call)) c.requires.phase
     c.end.ensures.core c.end.ensures.phase
