@@ -5,11 +5,11 @@ ghost use Rattle.gx_base.specs.Plans as plans;
 ghost use Rattle.gx_base.specs.declared.acts.Act.TheVariants as acts;
 ghost use Rattle.preflow_push.specs.FlowCalls.{flow_call_of, room_of};
 ghost use Rattle.preflow_push.specs.Discharge.{names_node, node_item, residual, sent_along, is_just_above, lesser, rise, is_terminal, discharge_plan};
-ghost use Rattle.preflow_push.specs.Networks.{view};
+ghost use Rattle.flow_files.specs.Networks.{view};
 ghost use Rattle.preflow_push.specs.Stages.{value_of_reply};
 
 use crate::flow_calls::{call_act, node_item};
-use crate::network::Network;
+use flow_files::Network;
 use crate::rooms::ROOMS;
 use crate::stages::{Stage, Walk};
 use crate::touches::{Touch, Touches};
