@@ -9,11 +9,11 @@ ghost use Rattle.flow_files.specs.Networks.{view};
 ghost use Rattle.preflow_push.specs.Stages.{value_of_reply};
 
 use crate::flow_calls::{call_act, node_item};
-use flow_files::Network;
 use crate::rooms::ROOMS;
 use crate::stages::{Stage, Walk};
 use crate::touches::{Touch, Touches};
 use commit_book::Operator;
+use flow_files::Network;
 use flow_graph::{EXCESS, FLOW, GAIN, HEIGHT, RELABEL, SEND};
 use gx_base::{Act, Item, NoMemory, Reply};
 use std::alloc::Global;

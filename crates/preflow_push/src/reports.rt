@@ -6,9 +6,9 @@ ghost use Rattle.preflow_push.specs.FlowReports.{commit_line, node_line, value_l
 ghost use Rattle.flow_files.specs.Networks.{view};
 ghost use Rattle.commit_book.specs.Commits.{items_of};
 
-use flow_files::{Arc, Network};
 use crate::rooms::{excess_in, flow_in};
 use commit_book::Commit;
+use flow_files::{Arc, Network};
 use flow_graph::FlowShard;
 use gx_base::NoMemory;
 use line_writer::{Field, put_line};
