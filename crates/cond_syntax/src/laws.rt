@@ -45,12 +45,13 @@ pub fn each_text_is_a_table_or_has_a_first_fault()
     ensures { (wanted : List Kind) (bytes : List ℕ) → ((kind : Kind) × (rows : RowMap) × IsTableText wanted bytes kind rows) ⊎ ((line : ℕ) × (fault : Fault) × IsFirstFault wanted bytes line fault) }
 {}
 
-/// The tokens of a printed condition spell it.
+/// The tokens of what is printed of a condition spell it, where it is one that can be printed (`IsPrintable`).
 pub fn printed_conditions_are_read_back()
     ensures { (kind : Kind) (c : Condition) → IsPrintable kind c → Spells kind (tokens_in (condition_text c)) c }
 {}
 
-/// A printed table is the text of a table with its rows, wherever its kind is wanted.
+/// What is printed of a table that can be printed (`IsPrintableTable`) is the text of a table with its rows, wherever
+/// its kind is wanted.
 pub fn printed_tables_are_read_back()
     ensures { (kind : Kind) (rows : Rows) → IsPrintableTable kind rows → (wanted : List Kind) → Contains wanted kind → IsReadBack wanted (table_text kind rows) kind rows }
 {}

@@ -1,4 +1,4 @@
--- NumberedCalls by number, some of which are to fail.
+-- Calls by number, some of which are to fail.
 use Rattle.std.specs.Prelude.{ℕ, ◌+◌, min, List, Contains}
 use Rattle.gx_io.specs.declared.numbered_calls.NumberedCalls.{NumberedCalls}
 

@@ -10,7 +10,7 @@ use crate::fault::IoFault;
 use crate::files::Files;
 use crate::numbered_calls::NumberedCalls;
 
-/// Files in memory by name. NumberedCalls of `start` and `read` are numbered together from 0, and those
+/// Files in memory by name. Calls of `start` and `read` are numbered together from 0, and those
 /// whose numbers were chosen fail. A start of an absent name fails too.
 #[derive(Drop)]
 pub struct MemFiles {

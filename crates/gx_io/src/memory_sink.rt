@@ -15,7 +15,7 @@ use std::alloc::Global;
 // How many bytes there is room for.
 const ROOM: usize = 1_048_576;
 
-/// A sink in memory. NumberedCalls of `write` and `flush` are numbered together from 0, and those whose
+/// A sink in memory. Calls of `write` and `flush` are numbered together from 0, and those whose
 /// numbers were chosen fail. A write past 1,048,576 bytes fails too, whole.
 #[derive(Drop)]
 pub struct MemSink {

@@ -80,10 +80,21 @@ pub record IsAlike (old new : Tree) : Type 0 where
   pub entries : new.numbers.entries ≡ old.numbers.entries
   pub root : new.root ≡ old.root
   pub live : new.live ≡ old.live
+  pub grown : new.grown ≡ old.grown
 
 -- one node more was put in by itself; the count stays at the greatest number of 64 bits
 abbrev pub CountsOne : Tree → Tree → Type 0
 CountsOne old new = new.grown ≡ min (old.grown + 1) (2 ^ 64 - 1)
+
+-- there are as many nodes as before, and as many of them count as put in by themselves
+pub record KeepsCounts (old new : Tree) : Type 0 where
+  pub size : slab_len new.nodes ≡ slab_len old.nodes
+  pub grown : new.grown ≡ old.grown
+
+-- there is one node more, which counts as put in by itself
+pub record AddsNode (old new : Tree) : Type 0 where
+  pub size : slab_len new.nodes ≡ slab_len old.nodes + 1
+  pub grown : CountsOne old new
 
 -- a new node has this key, and its id stands for it
 pub record IsPlanted (old new : Tree) (key : ℕ) (node : Node) : Type 0 where

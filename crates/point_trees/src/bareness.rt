@@ -1,7 +1,7 @@
 ghost use Rattle.std.specs.Prelude.{◌≡◌, true, false, Option, Some, None, is_some, IfSome, IfNone};
 ghost use Rattle.slab.specs.Slab.{Updates};
 ghost use Rattle.point_trees.specs.Trees.{is_bare, all_bare};
-ghost use Rattle.point_trees.specs.TreeStates.{node_at, tree_state, IsSound, IsClear, KeepsNodes, IsVeiled};
+ghost use Rattle.point_trees.specs.TreeStates.{node_at, tree_state, IsSound, IsClear, KeepsNodes, KeepsCounts, IsVeiled};
 
 use crate::nodes::{Node, child, is_left};
 use crate::tree::Tree;
@@ -56,6 +56,7 @@ impl Tree {
         ensures sound { IsSound self.new }
         ensures state { tree_state self.new ≡ tree_state self.old }
         ensures kept { KeepsNodes self.old self.new }
+        ensures counts { KeepsCounts self.old self.new }
     {
         let node = self.node(key)?;
         if node.live
@@ -75,6 +76,7 @@ impl Tree {
         ensures sound { IsSound self.new }
         ensures state { tree_state self.new ≡ tree_state self.old }
         ensures kept { KeepsNodes self.old self.new }
+        ensures counts { KeepsCounts self.old self.new }
     {
         let mut at = key;
         // no way is longer than there are nodes
@@ -92,6 +94,7 @@ impl Tree {
         ensures sound { IsSound self.new }
         ensures state { tree_state self.new ≡ tree_state self.old }
         ensures kept { KeepsNodes self.old self.new }
+        ensures counts { KeepsCounts self.old self.new }
         ensures clear { IsClear self.new spot }
     {
         let mut at = match self.root {

@@ -1,10 +1,10 @@
-ghost use Rattle.std.specs.Prelude.{◌≡◌, ◌≢◌, ◌+◌, ◌<◌, ◌≤◌, ℕ, true, false, Bool, ℤ, cond, is_some, Some, None, OnOk, OnErr, IfOk};
+ghost use Rattle.std.specs.Prelude.{◌≡◌, ◌≢◌, ◌+◌, ◌<◌, ◌≤◌, ℕ, true, false, Bool, ℤ, cond, is_some, Some, None, OnOk, OnErr, IfOk, ◌⊎◌};
 ghost use Rattle.std.specs.Ordering.{int_eq};
 ghost use Rattle.gx_base.specs.States.{with_row};
 ghost use Rattle.slab.specs.Slab.{slab_len, Updates};
 ghost use Rattle.point_trees.specs.Trees as trees;
 ghost use Rattle.point_trees.specs.declared.nodes.Node.{Node};
-ghost use Rattle.point_trees.specs.TreeStates.{node_at, key_of, place, tree_state, count_of, dead_nodes, IsSound, IsAlike, IsPlanted, HangsBelow, IsClear, has_node, NoPoint, KeepsNodes};
+ghost use Rattle.point_trees.specs.TreeStates.{node_at, key_of, place, tree_state, count_of, dead_nodes, IsSound, IsAlike, IsPlanted, HangsBelow, IsClear, has_node, NoPoint, KeepsNodes, KeepsCounts, AddsNode};
 
 use crate::nodes::{Axis, Node, Seat, crossed, leaf, link};
 use crate::tree::Tree;
@@ -39,6 +39,7 @@ impl Tree {
         ensures sound { IsSound self.new }
         ensures state { tree_state self.new ≡ with_row (tree_state self.old) (0, id) None }
         ensures kept { KeepsNodes self.old self.new }
+        ensures counts { KeepsCounts self.old self.new }
     {
         match self.owner(id) {
             None => {}
@@ -77,6 +78,7 @@ impl Tree {
         ensures sound { IsSound self.new }
         ensures state { tree_state self.new ≡ with_row (tree_state self.old) (0, spot.id) (Some (place spot)) }
         ensures kept { KeepsNodes self.old self.new }
+        ensures counts { KeepsCounts self.old self.new }
     {
         self.mark(key, true);
         self.number(spot.id, key);
@@ -90,6 +92,7 @@ impl Tree {
         ensures sound { IsSound self.new }
         ensures state { tree_state self.new ≡ with_row (tree_state self.old) (0, spot.id) (Some (place spot)) }
         ensures kept { KeepsNodes self.old self.new }
+        ensures counts { KeepsCounts self.old self.new }
     {
         self.take_out(spot.id);
         self.clear_way(spot);
@@ -122,6 +125,7 @@ impl Tree {
         ensures dead { OnOk result (dead_nodes self.new ≤ dead_nodes self.old) }
         ensures below { IfOk result (HangsBelow self.old self.new (Seat.Free at left) spot axis) }
         ensures err { OnErr result (tree_state self.new ≡ tree_state self.old) }
+        ensures refused { OnErr result (KeepsCounts self.old self.new) }
         ensures kept { KeepsNodes self.old self.new }
     {
         let parent = self.node_in(at);
@@ -144,6 +148,7 @@ impl Tree {
         ensures dead { OnOk result (dead_nodes self.new ≤ dead_nodes self.old) }
         ensures below { IfOk result (HangsBelow self.old self.new Seat.Empty spot axis) }
         ensures err { OnErr result (tree_state self.new ≡ tree_state self.old) }
+        ensures refused { OnErr result (KeepsCounts self.old self.new) }
         ensures kept { KeepsNodes self.old self.new }
     {
         let key = self.plant(leaf(axis, spot, 0, 0))?;
@@ -187,6 +192,7 @@ impl Tree {
         ensures ok { OnOk result (tree_state self.new ≡ with_row (tree_state self.old) (0, spot.id) (Some (place spot))) }
         ensures room { OnOk result (has_node self.new spot ≡ true) }
         ensures err { OnErr result (tree_state self.new ≡ tree_state self.old) }
+        ensures grown { KeepsCounts self.old self.new ⊎ AddsNode self.old self.new }
         ensures kept { KeepsNodes self.old self.new }
     {
         self.clear_way(spot);

@@ -1,4 +1,4 @@
-ghost use Rattle.std.specs.Prelude.{◌≡◌, true};
+ghost use Rattle.std.specs.Prelude.{◌≡◌, ◌≢◌, true};
 ghost use Rattle.point_trees.specs.Trees as trees;
 
 use gx_base::Spot;
@@ -43,7 +43,9 @@ pub fn coordinate(axis: Axis, spot: Spot) -> i64
 }
 
 /// The other direction.
-pub fn crossed(axis: Axis) -> Axis {
+pub fn crossed(axis: Axis) -> Axis
+    ensures { result ≢ axis }
+{
     match axis {
         Axis::X => Axis::Y,
         Axis::Y => Axis::X,

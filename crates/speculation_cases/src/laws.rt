@@ -27,7 +27,6 @@ pub fn two_setters_in_conflict()
 {}
 
 /// An ordered loop in which a finished iteration waits, is named by one of a smaller item, and undoes.
-/// Were nobody named, it would wait on.
 pub fn a_named_iteration_undoes()
     ensures { (table : RowMap) → HasPreciseRows cells_tables table → (scheduled setter_and_reader (begun (one_setter table)) reader_schedule).trace ≡ turns_of_reader }
 {}
@@ -38,8 +37,8 @@ pub fn the_diamond_with_two_workers()
     ensures { (table : RowMap) → HasPreciseRows flow_tables table → (scheduled (discharge_operator net) (begun (diamond table)) (alternating 50)).trace ≡ turns_of_both }
 {}
 
-/// So the run of the diamond is serial: its calls have numbers of 64 bits, and it keeps all that the law
-/// of runs asks. Nothing is ready at its end, with any number of turns of worker 0 after the others.
+/// The run of the diamond is serial, and nothing is ready at its end, with any number of turns of worker 0 after the
+/// others.
 pub fn the_diamond_is_serial()
     ensures serial { (table : RowMap) (turns : ℕ) → HasPreciseRows flow_tables table → IsSerialInTheEnd (discharge_operator net) (diamond table) (played (discharge_operator net) (diamond table) 2 (alternating 50) turns).machine }
     ensures ends { (table : RowMap) (turns : ℕ) → HasPreciseRows flow_tables table → is_empty (played (discharge_operator net) (diamond table) 2 (alternating 50) turns).machine.book.ready ≡ true }

@@ -6,7 +6,7 @@ use Rattle.gx_base.specs.declared.calls.Spot.{Spot}
 use Rattle.point_trees.specs.declared.nodes.Node.{Node}
 use Rattle.point_trees.specs.declared.tree.Tree.{Tree}
 use Rattle.point_trees.specs.Trees.{is_left, child, child_of, way, node_depth, is_bare, all_bare, IsTree, IsOpenTo}
-use Rattle.point_trees.specs.TreeStates.{node_at, key_of, row_of_node, tree_state, count_of, IsSound, IsClear, KeepsNodes, IsVeiled}
+use Rattle.point_trees.specs.TreeStates.{node_at, key_of, row_of_node, tree_state, count_of, IsSound, IsClear, KeepsNodes, KeepsCounts, IsVeiled}
 use Rattle.point_trees.proofs.states.Basics.{same_key, some_none, some_is}
 use Rattle.point_trees.proofs.states.StateRows.{with_rows, row_found, rows_of-same, row_of_alike}
 use Rattle.point_trees.proofs.trees.Ways.{AllStay, way_further, way_kept, way_over}
@@ -20,12 +20,13 @@ pub record IsSame (old new : Tree) : Type 0 where
   pub sound : IsSound new
   pub state : tree_state new ≡ tree_state old
   pub kept : KeepsNodes old new
+  pub counts : KeepsCounts old new
 
 pub same_itself : (tree : Tree) → IsSound tree → IsSame tree tree
-same_itself tree s = record { sound = s; state = refl; kept = λ r h. h }
+same_itself tree s = record { sound = s; state = refl; kept = λ r h. h; counts = record { size = refl; grown = refl } }
 
 pub same_then : (a b c : Tree) → IsSame a b → IsSame b c → IsSame a c
-same_then a b c f g = record { sound = g.sound; state = g.state ∙ f.state; kept = λ r h. g.kept r (f.kept r h) }
+same_then a b c f g = record { sound = g.sound; state = g.state ∙ f.state; kept = λ r h. g.kept r (f.kept r h); counts = record { size = g.counts.size ∙ f.counts.size; grown = g.counts.grown ∙ f.counts.grown } }
 
 module _ (old new : Tree) (key : ℕ) (n : Node) (v : Bool) (s : IsSound old) (there : node_at old key ≡ Some n) (w : IsVeiled old new key v) where
   here : node_at new key ≡ Some (record n { bare = v })
@@ -82,6 +83,7 @@ module _ (old new : Tree) (key : ℕ) (n : Node) (v : Bool) (s : IsSound old) (t
     };
     state = state;
     kept = nodes_kept old new veiled_stays;
+    counts = record { size = w.size; grown = ap (λ (t : Tree). t.grown) w.rest };
   }
 
   -- one that isn't bare

@@ -22,3 +22,6 @@ walk-preserved c =
 
 pub returns-in-None-child-clause-sound : goal.returns-in-None-child-clause-sound
 returns-in-None-child-clause-sound c = (clearing_noted c.args.self.now c.walk.self c.unveil.new.self c.args.spot c.walk.at c.node_in-node.result c.walk.invariant c.node_in-node.ensures c.unveil.ensures).0.same.sound
+
+pub returns-in-None-child-clause-counts : goal.returns-in-None-child-clause-counts
+returns-in-None-child-clause-counts c = (clearing_noted c.args.self.now c.walk.self c.unveil.new.self c.args.spot c.walk.at c.node_in-node.result c.walk.invariant c.node_in-node.ensures c.unveil.ensures).0.same.counts

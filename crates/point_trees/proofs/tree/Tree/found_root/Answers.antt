@@ -22,4 +22,4 @@ returns c =
     let w : Changed c.args.self.now c.count_one.new.self c.args.spot.id (Some (place c.args.spot)) =
     subst (λ (t : Tree). Changed c.args.self.now t c.args.spot.id (Some (place c.args.spot))) (sym c.count_one.ensures) g.changed in
     let b = rooted_below c.args.self.now c.plant.new.self c.args.spot c.args.axis c.in_ok-key.key c.requires.empty (subst (IsPlanted c.args.self.now c.plant.new.self c.in_ok-key.key) c.leaf.ensures c.in_ok-key.ensures.ok) in
-    record { sound = w.sound; ok = w.state; room = ap (λ (t : Tree). has_node t c.args.spot) c.count_one.ensures ∙ g.held; dead = subst (λ (t : Tree). dead_nodes t ≤ dead_nodes c.args.self.now) (sym c.count_one.ensures) (no_more_dead c.args.self.now (record c.plant.new.self { root = Some c.in_ok-key.key }) (let e = g.size in omega arith) g.live); below = subst (λ (t : Tree). HangsBelow c.args.self.now t Empty c.args.spot c.args.axis c.in_ok-key.key) (sym c.count_one.ensures) (below_counted c.args.self.now (record c.plant.new.self { root = Some c.in_ok-key.key }) Empty c.args.spot c.args.axis c.in_ok-key.key b); err = tt; kept = w.kept }
+    record { sound = w.sound; ok = w.state; room = ap (λ (t : Tree). has_node t c.args.spot) c.count_one.ensures ∙ g.held; dead = subst (λ (t : Tree). dead_nodes t ≤ dead_nodes c.args.self.now) (sym c.count_one.ensures) (no_more_dead c.args.self.now (record c.plant.new.self { root = Some c.in_ok-key.key }) (let e = g.size in omega arith) g.live); below = subst (λ (t : Tree). HangsBelow c.args.self.now t Empty c.args.spot c.args.axis c.in_ok-key.key) (sym c.count_one.ensures) (below_counted c.args.self.now (record c.plant.new.self { root = Some c.in_ok-key.key }) Empty c.args.spot c.args.axis c.in_ok-key.key b); err = tt; refused = tt; kept = w.kept }

@@ -30,4 +30,4 @@ returns c =
     let b = hung_below c.args.self.now c.plant.new.self c.rewrite.new.self c.args.spot c.args.axis c.in_ok-key.key c.args.at c.node_in-parent.result c.args.left c.requires.sound c.requires.free c.node_in-parent.ensures c.requires.seat
     (subst (IsPlanted c.args.self.now c.plant.new.self c.in_ok-key.key) c.leaf.ensures c.in_ok-key.ensures.ok)
     (subst (λ (n : Node). Updates c.plant.new.self.nodes c.rewrite.new.self.nodes c.args.at (Some n)) c.link.ensures c.rewrite.ensures.nodes) c.rewrite.ensures.count c.rewrite.ensures.rest fits c.requires.clear in
-    record { sound = w.sound; ok = w.state; room = ap (λ (t : Tree). has_node t c.args.spot) c.count_one.ensures ∙ g.held; dead = subst (λ (t : Tree). dead_nodes t ≤ dead_nodes c.args.self.now) (sym c.count_one.ensures) (no_more_dead c.args.self.now c.rewrite.new.self (let e = g.size in omega arith) g.live); below = subst (λ (t : Tree). HangsBelow c.args.self.now t (Free c.args.at c.args.left) c.args.spot c.args.axis c.in_ok-key.key) (sym c.count_one.ensures) (below_counted c.args.self.now c.rewrite.new.self (Free c.args.at c.args.left) c.args.spot c.args.axis c.in_ok-key.key b); err = tt; kept = w.kept }
+    record { sound = w.sound; ok = w.state; room = ap (λ (t : Tree). has_node t c.args.spot) c.count_one.ensures ∙ g.held; dead = subst (λ (t : Tree). dead_nodes t ≤ dead_nodes c.args.self.now) (sym c.count_one.ensures) (no_more_dead c.args.self.now c.rewrite.new.self (let e = g.size in omega arith) g.live); below = subst (λ (t : Tree). HangsBelow c.args.self.now t (Free c.args.at c.args.left) c.args.spot c.args.axis c.in_ok-key.key) (sym c.count_one.ensures) (below_counted c.args.self.now c.rewrite.new.self (Free c.args.at c.args.left) c.args.spot c.args.axis c.in_ok-key.key b); err = tt; refused = tt; kept = w.kept }
