@@ -1,4 +1,4 @@
-pub mod files
+pub mod CallerLemmas
 pub mod moves
 pub mod means
 pub mod lines

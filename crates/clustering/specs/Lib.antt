@@ -1,6 +1,5 @@
 pub mod PointRows
 pub mod PointFiles
-pub mod PointReading
 pub mod PointCalls
 pub mod Chain
 pub mod ChainStages

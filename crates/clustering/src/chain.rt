@@ -2,7 +2,7 @@ ghost use Rattle.std.specs.Prelude.{◌≡◌, ◌≤◌, ◌+◌, negsuc, ◌||
 ghost use Rattle.std.specs.Ordering.{int_eq};
 ghost use Rattle.gx_base.specs.declared.calls.Reply as replies;
 ghost use Rattle.gx_base.specs.Spots.{spot_of_reply};
-ghost use Rattle.clustering.specs.PointFiles.{most_points};
+ghost use Rattle.point_files.specs.PointFiles.{most_points};
 ghost use Rattle.clustering.specs.PointCalls.{rooms};
 ghost use Rattle.clustering.specs.Chain.{chain_plan, is_of_id, chase, with_place, with_nearest, going_to, merging_both, weighing, with_weights};
 ghost use Rattle.clustering.specs.ChainStages.{MovesTo, rest_at, body_rest, acts_left, acts_from, merging_from, reply_or_zeros};

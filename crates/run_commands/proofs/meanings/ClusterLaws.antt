@@ -10,7 +10,7 @@ use Rattle.gx_base.specs.TableRows.{RowMap}
 use Rattle.kd_points.specs.PointTables.{point_tables}
 use Rattle.shared_sets.specs.CellsTables.{cells_tables}
 use Rattle.clustering.specs.PointFiles.{CallsFor}
-use Rattle.clustering.proofs.files.FileAnswers.{one_answer}
+use Rattle.clustering.proofs.CallerLemmas.{one_answer}
 use Rattle.run_commands.specs.declared.run_faults.TableFault.{TableFault}
 use Rattle.run_commands.specs.declared.run_faults.TableFault.TheVariants.{Line, Pair}
 use Rattle.run_commands.specs.RunTables.{IsRunTable}

@@ -1,0 +1,3 @@
+pub mod PointRows
+pub mod PointFiles
+pub mod PointReading
