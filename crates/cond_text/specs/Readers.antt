@@ -2,16 +2,16 @@
 use Rattle.std.specs.Prelude.{◌≡◌, ℕ, List, [], ◌∷◌, reverse, Option, Some, None, Result, Ok, Err}
 use Rattle.gx_base.specs.Kinds.{kind_number}
 use Rattle.cond_syntax.specs.WrittenConditions.{WrittenCondition, True, False}
-use Rattle.cond_text.specs.Machine as machine
-use Rattle.cond_text.specs.Machine.{Frame, ReadingState, Operand, Whole, First, unit_done}
-use Rattle.cond_text.specs.Comparisons.{term_begun}
+use Rattle.cond_terms.specs.Machine as machine
+use Rattle.cond_terms.specs.Machine.{Frame, ReadingState, Operand, Whole, First, unit_done}
+use Rattle.cond_terms.specs.Comparisons.{term_begun}
 use Rattle.cond_syntax.specs.Tokens.{Token, TrueKey, FalseKey}
 use Rattle.cond_text.specs.Drafts.{IsDraft}
 use Rattle.cond_text.specs.Levels.{IsLevel, LeadsConjunction, LeadsLevel}
-use Rattle.cond_text.specs.Sources.{reading, Stops, IsAtEnd}
-use Rattle.cond_text.specs.declared.sources.Source.{Source}
-use Rattle.cond_text.specs.declared.sources.Stop.{Stop}
-use Rattle.cond_text.specs.declared.sources.Stop.TheVariants.{Wrong, Cut, NoMemory}
+use Rattle.cond_terms.specs.Sources.{reading, Stops, IsAtEnd}
+use Rattle.cond_terms.specs.declared.sources.Source.{Source}
+use Rattle.cond_terms.specs.declared.sources.Stop.{Stop}
+use Rattle.cond_terms.specs.declared.sources.Stop.TheVariants.{Wrong, Cut, NoMemory}
 use Rattle.cond_text.specs.declared.drafts.Draft.{Draft}
 use Rattle.cond_text.specs.declared.levels.Level.{Level}
 use Rattle.cond_text.specs.declared.readers.Innermost.{Innermost}

@@ -3,12 +3,12 @@
 ghost use Rattle.std.specs.Prelude.{ℕ, List, ◌∷◌, [], Option, reverse, IfOk};
 ghost use Rattle.gx_base.specs.Kinds.{kind_number};
 ghost use Rattle.cond_syntax.specs.WrittenConditions.{WrittenCondition};
-ghost use Rattle.cond_text.specs.Machine as machine;
-ghost use Rattle.cond_text.specs.Machine.{ReadingState, Frame, Operand, step, unit_done, close_read, whole};
-ghost use Rattle.cond_text.specs.CodeTokens.{token_seen};
+ghost use Rattle.cond_terms.specs.Machine as machine;
+ghost use Rattle.cond_terms.specs.Machine.{ReadingState, Frame, Operand, step, unit_done, close_read, whole};
+ghost use Rattle.cond_terms.specs.CodeTokens.{token_seen};
 ghost use Rattle.cond_text.specs.Drafts.{IsDraft};
 ghost use Rattle.cond_text.specs.Levels.{IsLevel, IsDraftConjunction};
-ghost use Rattle.cond_text.specs.Sources.{IsLater, IsStopped};
+ghost use Rattle.cond_terms.specs.Sources.{IsLater, IsStopped};
 ghost use Rattle.cond_text.specs.Readers.{AreOutside, HasReached, IsTaken, LeadsReader, LeadsUnit, IsEnded, IsReadWhole};
 
 use crate::drafts::Draft;

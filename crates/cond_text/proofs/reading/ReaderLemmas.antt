@@ -1,27 +1,27 @@
 -- What tokens lead to, and the levels of open parentheses.
 use Rattle.std.proofs.Common.{◌≡◌, ℕ, List, [], ◌∷◌, ◌++◌, Option, Some, None, Result, Ok, Err, reverse, refl, ap, sym, ◌∙◌}
 use Rattle.std.proofs.lemmas.List.{reverse-append, reverse-reverse}
-use Rattle.cond_text.specs.Machine.{ReadingState, Frame, operand_read, conjunction_read, First, Operand, whole, whole_or_wrong}
-use Rattle.cond_text.specs.Machine as machine
+use Rattle.cond_terms.specs.Machine.{ReadingState, Frame, operand_read, conjunction_read, First, Operand, whole, whole_or_wrong}
+use Rattle.cond_terms.specs.Machine as machine
 use Rattle.cond_syntax.specs.WrittenConditions.{WrittenCondition}
-use Rattle.cond_text.specs.CodeTokens.{token_seen}
-use Rattle.cond_text.specs.Comparisons.{term_begun}
+use Rattle.cond_terms.specs.CodeTokens.{token_seen}
+use Rattle.cond_terms.specs.Comparisons.{term_begun}
 use Rattle.cond_text.specs.Drafts.{either_of}
 use Rattle.cond_text.specs.Levels.{IsLevel, IsDraftConjunction, IsWhole, LeadsLevel, LeadsConjunction, outside, or_frames}
 use Rattle.cond_text.specs.Readers.{AreOutside, IsReaderPlace, HasReached, IsTaken, IsEnded, IsReadWhole, unit_begun}
-use Rattle.cond_text.specs.Sources.{reading, Stops, IsStoppedAt, IsAtEnd}
+use Rattle.cond_terms.specs.Sources.{reading, Stops, IsStoppedAt, IsAtEnd}
 use Rattle.gx_base.specs.Kinds.{kind_number}
 use Rattle.cond_text.specs.declared.drafts.Draft.{Draft}
-use Rattle.cond_text.specs.declared.sources.Source.{Source}
-use Rattle.cond_text.specs.declared.sources.Stop.{Stop}
-use Rattle.cond_text.specs.declared.sources.Stop.TheVariants.{Wrong, Cut, NoMemory}
+use Rattle.cond_terms.specs.declared.sources.Source.{Source}
+use Rattle.cond_terms.specs.declared.sources.Stop.{Stop}
+use Rattle.cond_terms.specs.declared.sources.Stop.TheVariants.{Wrong, Cut, NoMemory}
 use Rattle.cond_text.specs.declared.levels.Conjunction.{Conjunction}
 use Rattle.cond_text.specs.declared.readers.Innermost.{Innermost}
 use Rattle.cond_text.specs.declared.readers.Innermost.TheVariants.{Due, Done}
 use Rattle.cond_text.specs.declared.readers.Reader.{Reader}
 use Rattle.cond_text.specs.declared.levels.Level.{Level}
-use Rattle.cond_text.specs.declared.tokens.TextToken.{TextToken}
-use Rattle.cond_text.specs.declared.tokens.TextToken.TheVariants.{NotKey, TrueKey, FalseKey, Open}
+use Rattle.cond_terms.specs.declared.tokens.TextToken.{TextToken}
+use Rattle.cond_terms.specs.declared.tokens.TextToken.TheVariants.{NotKey, TrueKey, FalseKey, Open}
 
 pub operand_read-other : (frames : List Frame) (t : TextToken) → (t ≡ NotKey → ⊥) → (t ≡ Open → ⊥) → operand_read frames (token_seen t) ≡ unit_begun frames (token_seen t)
 operand_read-other frames NotKey isnt isnt' = absurd (isnt refl)

@@ -2,7 +2,7 @@ use Rattle.std.proofs.Common.{◌≡◌, false, [], sym, ◌∙◌}
 use Rattle.gx_base.specs.Kinds.{kind_number}
 use Rattle.cond_syntax.specs.Tokens.{tokens_in}
 use Rattle.cond_syntax.specs.Fronts.{front_of, all_known}
-use Rattle.cond_text.specs.Machine.{Operand}
+use Rattle.cond_terms.specs.Machine.{Operand}
 use Rattle.cond_syntax.proofs.CallerLemmas.{wrong_has_no_form}
 use Rattle.cond_text.specs.Drafts.{IsDraft}
 use Rattle.cond_text.proofs.reading.ConditionLemmas.{cut_found, whole_found}

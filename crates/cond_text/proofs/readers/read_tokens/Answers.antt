@@ -1,9 +1,9 @@
 use Rattle.std.proofs.Common.{[], ◌∙◌, refl, arith}
 use Rattle.std.proofs.lemmas.Result.{err_from_is_err_and}
 use Rattle.gx_base.specs.Kinds.{kind_number}
-use Rattle.cond_text.specs.Machine.{Operand}
+use Rattle.cond_terms.specs.Machine.{Operand}
 use Rattle.cond_text.specs.Readers.{HasReached}
-use Rattle.cond_text.proofs.reading.SourceLemmas.{IsLater-then}
+use Rattle.cond_terms.proofs.CallerLemmas.{IsLater-then}
 use Rattle.cond_text.proofs.reading.ReaderLemmas.{stops_whole, ended_whole}
 use Rattle.cond_text.proofs.readers.read_tokens.Goals as goal
 

@@ -1,9 +1,9 @@
 use Rattle.std.proofs.Common.{List, ap, ◌∙◌}
 use Rattle.std.proofs.lemmas.Result.{err_from_is_err_and}
 use Rattle.gx_base.specs.Kinds.{kind_number}
-use Rattle.cond_text.specs.Machine.{Frame}
-use Rattle.cond_text.specs.Comparisons.{comparison_spelled}
-use Rattle.cond_text.specs.Sources.{reading}
+use Rattle.cond_terms.specs.Machine.{Frame}
+use Rattle.cond_terms.specs.Comparisons.{comparison_spelled}
+use Rattle.cond_terms.specs.Sources.{reading}
 use Rattle.cond_text.proofs.reading.ReaderLemmas.{unit_begun-other}
 use Rattle.cond_text.proofs.readers.read_unit.Goals as goal
 

@@ -1,0 +1,5 @@
+pub mod CodeTokens
+pub mod Comparisons
+pub mod Machine
+pub mod Sources
+pub mod TokenSteps
