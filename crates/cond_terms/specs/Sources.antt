@@ -51,9 +51,14 @@ pub record IsLater (old new : Source) : Type 0 where
 abbrev pub IsAtEnd : Source → Type 0
 IsAtEnd source = tokens_ahead source ≡ []
 
+-- one token has been read
+pub record IsRead (old : Source) (token : plain.Token) (new : Source) : Type 0 where
+  pub ahead : tokens_ahead old ≡ token ∷ tokens_ahead new
+  pub shorter : length new.rest.now < length old.rest.now
+
 -- what the next token is
 abbrev pub IsNext : Source → Source → Next → Type 0
-IsNext old new (Read token) = (tokens_ahead old ≡ token_seen token ∷ tokens_ahead new) × (length new.rest.now < length old.rest.now)
+IsNext old new (Read token) = IsRead old (token_seen token) new
 IsNext old new End = (is_cut old ≡ false) × IsAtEnd old × IsAtEnd new
 IsNext old new next.Cut = (is_cut old ≡ true) × IsAtEnd old × IsAtEnd new
 

@@ -1,20 +1,17 @@
 -- What is read after one token, and after what stops.
-use Rattle.std.proofs.Common.{◌≡◌, ℕ, Bool, true, false, ◌&&◌, List, [], ◌∷◌, Option, Some, None, refl, ap, ◌∙◌, arith}
+use Rattle.std.proofs.Common.{◌≡◌, ◌<◌, ℕ, length, Bool, true, false, ◌&&◌, List, [], ◌∷◌, Option, Some, None, refl, ap, ◌∙◌, arith}
 use Rattle.gx_base.specs.declared.kinds.Kind.{Kind}
 use Rattle.gx_base.specs.Kinds.{kind_number}
 use Rattle.cond_syntax.specs.Tokens as plain
 use Rattle.cond_syntax.specs.Tokens.{tokens_in}
 use Rattle.cond_terms.specs.Machine as machine
 use Rattle.cond_terms.specs.Machine.{ReadingState, Operand, run, step, whole, whole_or_wrong, reading_of}
-use Rattle.cond_terms.specs.CodeTokens.{token_seen}
 use Rattle.cond_syntax.specs.Fronts.{all_known}
 use Rattle.cond_terms.specs.TokenSteps.{opened_after, inside_after, knows}
-use Rattle.cond_terms.specs.Sources.{reading, words_known, tokens_ahead, is_cut, IsSourceStart, IsLater, IsAtEnd, IsNext, Stops, StopsToken}
+use Rattle.cond_terms.specs.Sources.{reading, words_known, tokens_ahead, is_cut, IsSourceStart, IsLater, IsAtEnd, IsRead, Stops, StopsToken}
 use Rattle.cond_terms.specs.declared.sources.Stop.{Stop}
 use Rattle.cond_terms.specs.declared.sources.Stop.TheVariants.{Wrong, Cut}
 use Rattle.cond_terms.specs.declared.sources.Source.{Source}
-use Rattle.cond_terms.specs.declared.sources.Next.TheVariants.{Read}
-use Rattle.cond_terms.specs.declared.tokens.TextToken.{TextToken}
 use Rattle.cond_terms.proofs.reading.TokenLemmas.{front_from-next, is_cut_from-next, front_from-cut, is_cut_from-cut, all_known-next}
 
 -- the second source is the first after a token
@@ -25,10 +22,10 @@ pub record IsAfter (old : Source) (t : plain.Token) (new : Source) : Type 0 wher
   pub inside : new.inside ≡ inside_after old.inside t
   pub all_known : new.all_known ≡ knows (kind_number old.kind) old.inside t && old.all_known
 
-pub tokens_ahead-after : (old new : Source) (t : plain.Token) → IsAfter old t new → tokens_ahead old ≡ t ∷ tokens_ahead new
+tokens_ahead-after : (old new : Source) (t : plain.Token) → IsAfter old t new → tokens_ahead old ≡ t ∷ tokens_ahead new
 tokens_ahead-after old new t after = rw after.token (front_from-next old.opened new.opened t (tokens_in new.rest.now) after.opened)
 
-pub is_cut-after : (old new : Source) (t : plain.Token) → IsAfter old t new → is_cut old ≡ is_cut new
+is_cut-after : (old new : Source) (t : plain.Token) → IsAfter old t new → is_cut old ≡ is_cut new
 is_cut-after old new t after = rw after.token (is_cut_from-next old.opened new.opened t (tokens_in new.rest.now) after.opened)
 
 and-turned : (a b c : Bool) → a && (b && c) ≡ (b && a) && c
@@ -37,13 +34,24 @@ and-turned true false c = refl
 and-turned false true c = refl
 and-turned false false c = refl
 
-pub words_known-after : (old new : Source) (t : plain.Token) → IsAfter old t new → words_known old ≡ words_known new
+words_known-after : (old new : Source) (t : plain.Token) → IsAfter old t new → words_known old ≡ words_known new
 unfolding words_known
 words_known-after old new t after =
     let front = tokens_ahead-after old new t after in
     let next = all_known-next (kind_number old.kind) old.inside t (tokens_ahead new) in
     let turned = and-turned old.all_known (knows (kind_number old.kind) old.inside t) (all_known (kind_number old.kind) (inside_after old.inside t) (tokens_ahead new)) in
     rw (front, next, turned, after.all_known, after.inside, after.kind)
+
+pub IsLater-after : (old new : Source) (t : plain.Token) → IsAfter old t new → length new.rest.now < length old.rest.now → IsLater old new
+IsLater-after old new t after shorter = record {
+  kind = after.kind;
+  known = words_known-after old new t after;
+  cut = is_cut-after old new t after;
+  shorter = omega arith;
+}
+
+pub IsRead-after : (old new : Source) (t : plain.Token) → IsAfter old t new → length new.rest.now < length old.rest.now → IsRead old t new
+IsRead-after old new t after shorter = record { ahead = tokens_ahead-after old new t after; shorter = shorter }
 
 and-true : (a : Bool) → a && true ≡ a
 and-true true = refl
@@ -72,9 +80,9 @@ pub reading-start : (kind : Kind) (text : List ℕ) (source : Source) → IsSour
 unfolding reading
 reading-start kind text source start = rw (start.ahead, start.cut)
 
-pub reading-next : (old new : Source) (token : TextToken) → IsLater old new → IsNext old new (Read token) → (state : ReadingState) → reading (Some state) old ≡ reading (step state (token_seen token)) new
+pub reading-next : (old new : Source) (t : plain.Token) → IsLater old new → IsRead old t new → (state : ReadingState) → reading (Some state) old ≡ reading (step state t) new
 unfolding reading
-reading-next old new token later next state = rw (next.0, later.cut)
+reading-next old new t later read state = rw (read.ahead, later.cut)
 
 pub reading-end : (source : Source) → is_cut source ≡ false → IsAtEnd source → (state : ReadingState) → reading (Some state) source ≡ whole_or_wrong (whole state)
 unfolding reading

@@ -6,7 +6,7 @@ ghost use Rattle.cond_syntax.specs.Tokens.{tokens_in};
 ghost use Rattle.cond_syntax.specs.TableTexts.{is_skipped};
 ghost use Rattle.cond_text.specs.LineForms.{Says};
 
-use crate::tokens::{TextToken, next_token};
+use cond_terms::{TextToken, next_token};
 use text_lines::is_blank;
 
 /// What a line says by its first tokens.

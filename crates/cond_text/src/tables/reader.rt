@@ -10,7 +10,7 @@ ghost use Rattle.cond_text.specs.declared.tables.line_faults.LineFault.TheVarian
 use super::line_faults::LineFault;
 use super::lines::{Said, is_skipped, said_by};
 use super::row_lines::RowLines;
-use crate::words::kind_named;
+use cond_terms::kind_named;
 use gx_base::Kind;
 use std::alloc::Global;
 

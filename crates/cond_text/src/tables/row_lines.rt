@@ -8,7 +8,7 @@ ghost use Rattle.cond_text.specs.Pairs.{has_pair};
 
 use super::line_faults::LineFault;
 use crate::conditions::{Found, read_condition};
-use crate::words::method_named;
+use cond_terms::method_named;
 use gx_base::{Cond, Kind, NoMemory, Table};
 use std::alloc::Global;
 

@@ -2,7 +2,7 @@ use Rattle.std.proofs.Common.{◌≡◌, ◌&&◌, refl, sym, arith}
 use Rattle.gx_base.specs.Kinds.{kind_number}
 use Rattle.cond_terms.specs.CodeTokens.{token_seen}
 use Rattle.cond_terms.specs.TokenSteps.{knows}
-use Rattle.cond_terms.proofs.reading.SourceLemmas.{tokens_ahead-after, is_cut-after, words_known-after, tokens_ahead-end, is_cut-end, tokens_ahead-cut, is_cut-cut}
+use Rattle.cond_terms.proofs.reading.SourceLemmas.{IsLater-after, IsRead-after, tokens_ahead-end, is_cut-end, tokens_ahead-cut, is_cut-cut}
 use Rattle.cond_terms.proofs.sources.Source.next.Goals as goal
 use Rattle.cond_terms.proofs.sources.Source.next.Goals.{then-knows, else-knows}
 
@@ -24,36 +24,27 @@ returns-clause-later c =
     let before = c.args.self.now in
     let known : c.if-knows.self ≡ knows (kind_number before.kind) before.inside (token_seen c.in-Some.token) && before.all_known =
     elim c.if-knows.branch [ then-knows w ↦ grind arith | else-knows w ↦ grind arith ] in
+    IsLater-after _ _ (token_seen c.in-Some.token)
     record {
+      token = c.in-Some.ensures.tokens;
+      opened = sym c.in-Some-opened_after.ensures.next;
       kind = refl;
-      known = words_known-after _ _ (token_seen c.in-Some.token) record {
-        token = c.in-Some.ensures.tokens;
-        opened = sym c.in-Some-opened_after.ensures.next;
-        kind = refl;
-        inside = c.inside_after-self.ensures;
-        all_known = known;
-      };
-      cut = is_cut-after _ _ (token_seen c.in-Some.token) record {
-        token = c.in-Some.ensures.tokens;
-        opened = sym c.in-Some-opened_after.ensures.next;
-        kind = refl;
-        inside = c.inside_after-self.ensures;
-        all_known = known;
-      };
-      shorter = omega (arith, c.in-Some.ensures.shorter);
+      inside = c.inside_after-self.ensures;
+      all_known = known;
     }
+    c.in-Some.ensures.shorter
 
 pub returns-clause-next : goal.returns-clause-next
 returns-clause-next c =
     let before = c.args.self.now in
     let known : c.if-knows.self ≡ knows (kind_number before.kind) before.inside (token_seen c.in-Some.token) && before.all_known =
-    elim c.if-knows.branch [ then-knows w ↦ grind arith | else-knows w ↦ grind arith ] in (
-      tokens_ahead-after _ _ (token_seen c.in-Some.token) record {
-        token = c.in-Some.ensures.tokens;
-        opened = sym c.in-Some-opened_after.ensures.next;
-        kind = refl;
-        inside = c.inside_after-self.ensures;
-        all_known = known;
-      },
-      c.in-Some.ensures.shorter,
-    )
+    elim c.if-knows.branch [ then-knows w ↦ grind arith | else-knows w ↦ grind arith ] in
+    IsRead-after _ _ (token_seen c.in-Some.token)
+    record {
+      token = c.in-Some.ensures.tokens;
+      opened = sym c.in-Some-opened_after.ensures.next;
+      kind = refl;
+      inside = c.inside_after-self.ensures;
+      all_known = known;
+    }
+    c.in-Some.ensures.shorter
