@@ -17,15 +17,15 @@ returns-in-Ok c =
     let known : all_known (kind_number c.args.kind) false (front_of ts) ≡ c.all_known.result = sym start.known ∙ c.in-Ok.ensures.later.known ∙ words_known-end _ read.3 ∙ sym c.all_known.ensures in
     rw c.answer.ensures (whole_found c.args.kind ts read.0 c.in-Ok.draft c.all_known.result (sym (reading-start c.args.kind c.args.text.now c.new-source.result start) ∙ read.2) kept known)
 
-pub returns-in-Err-Cut : goal.returns-in-Err-Cut
-returns-in-Err-Cut c =
+pub returns-in-Err-Stopped-Cut : goal.returns-in-Err-Stopped-Cut
+returns-in-Err-Stopped-Cut c =
     let start = c.new-source.ensures in
-    let read = rw c.in-Err-Cut.field-0-is at c.in-Err-Cut.ensures.whole in
+    let read = rw (c.in-Err-Stopped-Cut.field-0-is, c.in-Err-Stopped-Cut.field-0-0-is) at c.in-Err-Stopped-Cut.ensures.whole in
     let ts = tokens_in c.args.text.now in
-    let known : all_known (kind_number c.args.kind) false (front_of ts) ≡ c.all_known-in-Err-Cut.result = sym start.known ∙ c.in-Err-Cut.ensures.later.known ∙ words_known-end _ read.1 ∙ sym c.all_known-in-Err-Cut.ensures in
-    rw c.answer-in-Err-Cut.ensures (cut_found c.args.kind ts c.all_known-in-Err-Cut.result (sym (reading-start c.args.kind c.args.text.now c.new-source.result start) ∙ read.0) known)
+    let known : all_known (kind_number c.args.kind) false (front_of ts) ≡ c.all_known-in-Err-Stopped-Cut.result = sym start.known ∙ c.in-Err-Stopped-Cut.ensures.later.known ∙ words_known-end _ read.1 ∙ sym c.all_known-in-Err-Stopped-Cut.ensures in
+    rw c.answer-in-Err-Stopped-Cut.ensures (cut_found c.args.kind ts c.all_known-in-Err-Stopped-Cut.result (sym (reading-start c.args.kind c.args.text.now c.new-source.result start) ∙ read.0) known)
 
-pub returns-in-Err-Wrong : goal.returns-in-Err-Wrong
-returns-in-Err-Wrong c =
-    let read = rw c.in-Err-Wrong.field-0-is at c.in-Err-Wrong.ensures.whole in
+pub returns-in-Err-Stopped-Wrong : goal.returns-in-Err-Stopped-Wrong
+returns-in-Err-Stopped-Wrong c =
+    let read = rw (c.in-Err-Stopped-Wrong.field-0-is, c.in-Err-Stopped-Wrong.field-0-0-is) at c.in-Err-Stopped-Wrong.ensures.whole in
     wrong_has_no_form (tokens_in c.args.text.now) (sym (reading-start c.args.kind c.args.text.now c.new-source.result c.new-source.ensures) ∙ read)
