@@ -3,7 +3,6 @@ pub mod Drafts
 pub mod Found
 pub mod Levels
 pub mod LineAnswers
-pub mod LineForms
 pub mod Pairs
 pub mod Readers
 pub mod TextFaults

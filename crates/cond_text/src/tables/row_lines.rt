@@ -28,7 +28,7 @@ impl RowLines {
     ghost use Rattle.gx_base.specs.Conditions.{condition_of};
     ghost use Rattle.cond_syntax.specs.Tokens.{Token, tokens_in};
     ghost use Rattle.cond_syntax.specs.TableTexts.{Typed, is_skipped, IsRead};
-    ghost use Rattle.cond_text.specs.LineForms.{BeginsRow};
+    ghost use Rattle.cond_terms.specs.LineForms.{BeginsRow};
     ghost use Rattle.cond_text.specs.LineAnswers.{IsRefused, IsNoPlace};
 
     /// No rows of a kind's table.

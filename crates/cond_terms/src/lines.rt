@@ -4,14 +4,14 @@ ghost use Rattle.std.specs.Prelude.{◌≡◌, ◌∷◌};
 ghost use Rattle.cond_syntax.specs.Tokens as plain;
 ghost use Rattle.cond_syntax.specs.Tokens.{tokens_in};
 ghost use Rattle.cond_syntax.specs.TableTexts.{is_skipped};
-ghost use Rattle.cond_text.specs.LineForms.{Says};
+ghost use Rattle.cond_terms.specs.LineForms.{Says};
 
-use cond_terms::{TextToken, next_token};
+use crate::tokens::{TextToken, next_token};
 use text_lines::is_blank;
 
 /// What a line says by its first tokens.
 #[derive(Clone, Copy)]
-pub(super) enum Said<'a> {
+pub enum Said<'a> {
     /// The name of a kind after `type`.
     TypeLine(&'a [u8]),
     /// Two words, and the text after the colon that follows them.
@@ -21,7 +21,7 @@ pub(super) enum Said<'a> {
 }
 
 /// Whether a line is empty but for blanks, or begins with `#` after them.
-pub(super) fn is_skipped(line: &[u8]) -> bool
+pub fn is_skipped(line: &[u8]) -> bool
     ensures { result ≡ is_skipped line.now }
 {
     for byte in line {
@@ -33,7 +33,7 @@ pub(super) fn is_skipped(line: &[u8]) -> bool
 }
 
 /// What a line says.
-pub(super) fn said_by(line: &[u8]) -> Said<'_>
+pub fn said_by(line: &[u8]) -> Said<'_>
     ensures { Says (tokens_in line.now) result }
 {
     match next_token(line) {

@@ -2,8 +2,8 @@
 use Rattle.std.specs.Prelude.{◌≡◌, ℕ, List, ◌∷◌}
 use Rattle.cond_syntax.specs.Tokens.{Token, Word, Colon, tokens_in}
 use Rattle.cond_syntax.specs.TableTexts.{IsTypeLine}
-use Rattle.cond_text.specs.declared.tables.lines.Said.{Said}
-use Rattle.cond_text.specs.declared.tables.lines.Said.TheVariants.{TypeLine, RowLine, Other}
+use Rattle.cond_terms.specs.declared.lines.Said.{Said}
+use Rattle.cond_terms.specs.declared.lines.Said.TheVariants.{TypeLine, RowLine, Other}
 
 -- the tokens are those of a row's line, whatever stands after the colon
 abbrev pub BeginsRow : List Token → (first second : List ℕ) → (condition : List Token) → Type 0
