@@ -1,2 +1,2 @@
--- What the proofs of other crates cite: a file spells one network, and calls for one answer.
-pub use Rattle.preflow_push.proofs.files.FileAnswers.{one_network, one_answer}
+-- What the proofs of other crates cite of flow files, passed on: a text calls for one answer.
+pub use Rattle.flow_files.proofs.CallerLemmas.{one_answer}

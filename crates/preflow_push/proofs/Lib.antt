@@ -1,5 +1,4 @@
 pub mod CallerLemmas
-pub mod files
 pub mod moves
 pub mod start_states
 pub mod orders

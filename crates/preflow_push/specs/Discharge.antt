@@ -5,7 +5,7 @@ use Rattle.std.specs.Int.{w64, int_min, int_wrapping_add, int_wrapping_sub}
 use Rattle.gx_base.specs.declared.items.Item.{Item}
 use Rattle.gx_base.specs.Plans.{Plan, Call, Push, Done, Operator}
 use Rattle.preflow_push.specs.declared.touches.Touch.{Touch}
-use Rattle.preflow_push.specs.Networks.{Net}
+use Rattle.flow_files.specs.Networks.{Net}
 use Rattle.preflow_push.specs.Touching.{touching}
 use Rattle.preflow_push.specs.FlowCalls.{rooms, height, relabel, excess, gain, flow, send, room_of, minus}
 

@@ -4,8 +4,8 @@ use Rattle.std.specs.Fmt.{signed_decimal}
 use Rattle.std.specs.List.{flat_map}
 use Rattle.gx_base.specs.declared.items.Item.{Item}
 use Rattle.gx_base.specs.States.{State}
-use Rattle.preflow_push.specs.declared.network.Arc.{Arc}
-use Rattle.preflow_push.specs.Networks.{Net}
+use Rattle.flow_files.specs.declared.network.Arc.{Arc}
+use Rattle.flow_files.specs.Networks.{Net}
 use Rattle.preflow_push.specs.FlowStates.{excess_in, flow_in}
 use Rattle.line_writer.specs.Lines.{line}
 

@@ -1,8 +1,5 @@
 pub mod Networks
-pub mod FlowLines
-pub mod FlowFiles
 pub mod FlowLimits
-pub mod FlowReading
 pub mod FlowCalls
 pub mod Touching
 pub mod TouchLists

@@ -5,8 +5,8 @@ use Rattle.std.specs.Int.{w64}
 use Rattle.gx_base.specs.declared.items.Item.{Item}
 use Rattle.gx_base.specs.Worklists.{with_items}
 use Rattle.gx_base.specs.SerialIterations.{Ended, serial}
-use Rattle.preflow_push.specs.declared.network.Arc.{Arc}
-use Rattle.preflow_push.specs.Networks.{Net}
+use Rattle.flow_files.specs.declared.network.Arc.{Arc}
+use Rattle.flow_files.specs.Networks.{Net}
 use Rattle.preflow_push.specs.Discharge.{discharge_operator}
 use Rattle.preflow_push.specs.Starts.{start_states, start_ready}
 use Rattle.preflow_push.specs.FlowReports.{flow_report}

@@ -10,8 +10,8 @@ use Rattle.gx_base.specs.Kinds.{kind_number}
 use Rattle.gx_base.specs.FlowKind.{height_sort, excess_sort, flow_sort}
 use Rattle.gx_base.specs.States.{State, with_number}
 use Rattle.gx_base.specs.Replays.{in_rooms, put}
-use Rattle.preflow_push.specs.declared.network.Arc.{Arc}
-use Rattle.preflow_push.specs.Networks.{Net}
+use Rattle.flow_files.specs.declared.network.Arc.{Arc}
+use Rattle.flow_files.specs.Networks.{Net}
 use Rattle.preflow_push.specs.FlowCalls.{rooms, room_of, minus}
 use Rattle.preflow_push.specs.FlowStates.{excess_in}
 use Rattle.preflow_push.specs.Discharge.{terminals, is_terminal, node_item}

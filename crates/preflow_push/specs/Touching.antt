@@ -2,7 +2,7 @@
 use Rattle.std.specs.Prelude.{ℕ, suc, ℤ, pos, true, false, Option, Some, None, List, [], ◌∷◌, ◌++◌, if◌then◌else◌}
 use Rattle.std.specs.Option.{option_to_list}
 use Rattle.std.specs.Ordering.{int_eq}
-use Rattle.preflow_push.specs.declared.network.Arc.{Arc}
+use Rattle.flow_files.specs.declared.network.Arc.{Arc}
 use Rattle.preflow_push.specs.declared.touches.Touch.{Touch}
 
 -- the arc of this number as the node sees it: it leaves the node, or it enters it, or neither

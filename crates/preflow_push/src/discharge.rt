@@ -5,15 +5,15 @@ ghost use Rattle.gx_base.specs.Plans as plans;
 ghost use Rattle.gx_base.specs.declared.acts.Act.TheVariants as acts;
 ghost use Rattle.preflow_push.specs.FlowCalls.{flow_call_of, room_of};
 ghost use Rattle.preflow_push.specs.Discharge.{names_node, node_item, residual, sent_along, is_just_above, lesser, rise, is_terminal, discharge_plan};
-ghost use Rattle.preflow_push.specs.Networks.{view};
+ghost use Rattle.flow_files.specs.Networks.{view};
 ghost use Rattle.preflow_push.specs.Stages.{value_of_reply};
 
 use crate::flow_calls::{call_act, node_item};
-use crate::network::Network;
 use crate::rooms::ROOMS;
 use crate::stages::{Stage, Walk};
 use crate::touches::{Touch, Touches};
 use commit_book::Operator;
+use flow_files::Network;
 use flow_graph::{EXCESS, FLOW, GAIN, HEIGHT, RELABEL, SEND};
 use gx_base::{Act, Item, NoMemory, Reply};
 use std::alloc::Global;

@@ -1,22 +1,16 @@
-//! Laws of flow files and of the start, over their definitions alone. A caller of one of these functions, which do
+//! Laws of the start and of reports, over their definitions alone. A caller of one of these functions, which do
 //! nothing, may use what it ensures.
 
 ghost use Rattle.std.specs.Prelude.{◌≡◌, ℕ, ℤ, List, FitsSigned};
 ghost use Rattle.std.specs.Int.{w64};
 ghost use Rattle.std.specs.List.{AllByRecursion};
-ghost use Rattle.preflow_push.specs.FlowLimits.{CallsForOne, IsReadable};
+ghost use Rattle.flow_files.specs.FlowLimits.{IsReadable};
 ghost use Rattle.preflow_push.specs.FlowStates.{excess_in, flow_in};
 ghost use Rattle.gx_base.specs.declared.items.Item.{Item};
-ghost use Rattle.preflow_push.specs.Networks.{Net};
+ghost use Rattle.flow_files.specs.Networks.{Net};
 ghost use Rattle.preflow_push.specs.OrderLaw.{HasNodesOfWords, ReportsOrder};
 ghost use Rattle.preflow_push.specs.StartLaw.{IsStart, balance};
 ghost use Rattle.preflow_push.specs.Starts.{start_states, start_ready};
-
-/// Each text calls for just one answer: it is the flow file of one network, and within the limits or past one that is
-/// told, or one line is told as its first fault.
-pub fn each_text_calls_for_one_answer()
-    ensures { (bytes : List ℕ) → CallsForOne bytes }
-{}
 
 /// Where the work on a network starts, in plain words.
 pub fn the_start_is_a_full_source()

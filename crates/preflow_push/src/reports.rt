@@ -3,12 +3,12 @@ ghost use Rattle.std.specs.List.{flat_map};
 ghost use Rattle.gx_base.specs.Replays.{in_rooms};
 ghost use Rattle.flow_graph.specs.FlowState.{state_of};
 ghost use Rattle.preflow_push.specs.FlowReports.{commit_line, node_line, value_line, flow_line, arc_line, arc_lines, flow_report};
-ghost use Rattle.preflow_push.specs.Networks.{view};
+ghost use Rattle.flow_files.specs.Networks.{view};
 ghost use Rattle.commit_book.specs.Commits.{items_of};
 
-use crate::network::{Arc, Network};
 use crate::rooms::{excess_in, flow_in};
 use commit_book::Commit;
+use flow_files::{Arc, Network};
 use flow_graph::FlowShard;
 use gx_base::NoMemory;
 use line_writer::{Field, put_line};

@@ -8,13 +8,13 @@ ghost use Rattle.gx_base.specs.Steps.{next_state};
 ghost use Rattle.flow_graph.specs.FlowState.{state_of};
 ghost use Rattle.preflow_push.specs.FlowCalls.{rooms, room_of, flow_call_of};
 ghost use Rattle.preflow_push.specs.FlowStates.{flow_in};
-ghost use Rattle.preflow_push.specs.Networks.{view};
+ghost use Rattle.flow_files.specs.Networks.{view};
 ghost use Rattle.preflow_push.specs.Discharge.{is_node, node_item};
 ghost use Rattle.preflow_push.specs.Starts.{empty_shard, empty_rooms, with_height, with_gain, with_flow, filled, filled_from, poured, start_states, start_ready, is_active, nodes_to};
 
 use crate::flow_calls::{flow_call, node_item};
-use crate::network::{Arc, Network};
 use crate::rooms::{ROOMS, excess_in, room_of};
+use flow_files::{Arc, Network};
 use flow_graph::{FlowShard, GAIN, RELABEL, SEND};
 use gx_base::{Item, NoMemory, SeqType};
 use std::alloc::Global;

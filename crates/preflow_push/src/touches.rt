@@ -2,7 +2,7 @@ ghost use Rattle.std.specs.Prelude.{◌≡◌, ◌<◌, ◌+◌, ◌^◌, ℤ, �
 ghost use Rattle.std.specs.Option.{option_to_list};
 ghost use Rattle.preflow_push.specs.Touching.{touch_of, touching};
 
-use crate::network::Arc;
+use flow_files::Arc;
 use gx_base::NoMemory;
 use indexmap::IndexMap;
 use std::alloc::Global;

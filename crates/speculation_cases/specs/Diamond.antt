@@ -3,8 +3,7 @@ use Rattle.std.specs.Prelude.{ℕ, zero, suc, pos, negsuc, false, List, [], ◌�
 use Rattle.gx_base.specs.declared.kinds.Kind.TheVariants.{Flow}
 use Rattle.gx_base.specs.Meanings.{number_reply}
 use Rattle.gx_base.specs.TableRows.{RowMap}
-use Rattle.preflow_push.specs.declared.network.Arc.{Arc}
-use Rattle.preflow_push.specs.Networks.{Net}
+use Rattle.preflow_push.specs.Networks.{Arc, Net}
 use Rattle.preflow_push.specs.Discharge.{node_item}
 use Rattle.preflow_push.specs.FlowCalls.{height, relabel, excess, gain, flow, send}
 use Rattle.speculation.specs.Events.{Turn}

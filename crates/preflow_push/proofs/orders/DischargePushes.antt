@@ -7,9 +7,9 @@ use Rattle.std.specs.Ordering.{int_eq}
 use Rattle.gx_base.specs.declared.calls.Reply.{Reply}
 use Rattle.gx_base.specs.declared.items.Item.{Item}
 use Rattle.gx_base.specs.Plans.{Plan, Done}
-use Rattle.preflow_push.specs.declared.network.Arc.{Arc}
+use Rattle.flow_files.specs.declared.network.Arc.{Arc}
 use Rattle.preflow_push.specs.declared.touches.Touch.{Touch}
-use Rattle.preflow_push.specs.Networks.{Net}
+use Rattle.flow_files.specs.Networks.{Net}
 use Rattle.preflow_push.specs.Touching.{touching_from}
 use Rattle.preflow_push.specs.Discharge as discharge
 use Rattle.preflow_push.specs.Discharge.{Terminals, Onward, node_item, names_node, terminals, residual, is_just_above, is_terminal, lesser, rise, push_unless, unless_spent, along, node_plan, with_excess, discharge_plan}

@@ -7,11 +7,11 @@ use Rattle.std.specs.List.{AllByRecursion, flat_map}
 use Rattle.gx_base.specs.declared.items.Item.{Item}
 use Rattle.gx_base.specs.States.{State}
 use Rattle.gx_base.specs.Worklists.{with_items}
-use Rattle.preflow_push.specs.declared.flow_lines.Said.{Said}
-use Rattle.preflow_push.specs.declared.flow_lines.Said.TheVariants.{Nothing, Problem, Source, Sink, Arc as ArcLine, Wrong}
-use Rattle.preflow_push.specs.Networks.{Net}
-use Rattle.preflow_push.specs.FlowFiles.{IsOf, arcs_of}
-use Rattle.preflow_push.specs.FlowLimits.{most_nodes, IsReadable}
+use Rattle.flow_files.specs.declared.flow_lines.Said.{Said}
+use Rattle.flow_files.specs.declared.flow_lines.Said.TheVariants.{Nothing, Problem, Source, Sink, Arc as ArcLine, Wrong}
+use Rattle.flow_files.specs.Networks.{Net}
+use Rattle.flow_files.specs.FlowFiles.{IsOf, arcs_of}
+use Rattle.flow_files.specs.FlowLimits.{most_nodes, IsReadable}
 use Rattle.preflow_push.specs.FlowStates.{excess_in}
 use Rattle.preflow_push.specs.FlowReports.{commit_line, value_line, arc_lines, flow_report}
 use Rattle.preflow_push.specs.Discharge.{discharge_operator}

@@ -7,8 +7,8 @@ use Rattle.std.specs.Ordering.{int_eq}
 use Rattle.std.specs.Cmp.{signed_Decides}
 use Rattle.gx_base.specs.States.{State}
 use Rattle.gx_base.specs.FlowKind.{excess_sort}
-use Rattle.preflow_push.specs.declared.network.Arc.{Arc}
-use Rattle.preflow_push.specs.Networks.{Net}
+use Rattle.flow_files.specs.declared.network.Arc.{Arc}
+use Rattle.flow_files.specs.Networks.{Net}
 use Rattle.preflow_push.specs.FlowStates.{excess_in, flow_in}
 use Rattle.preflow_push.specs.Discharge.{is_terminal, terminals}
 use Rattle.preflow_push.specs.Starts.{filled, filled_from, poured, with_height, empty_rooms, start_states, is_active}

@@ -17,7 +17,7 @@ use Rattle.gx_base.proofs.CallerLemmas.{below_bits, same_row, same_row-sort, num
 use Rattle.gx_base.specs.Replays.{in_rooms, put}
 use Rattle.flow_graph.specs.declared.shard.FlowShard.{FlowShard}
 use Rattle.flow_graph.specs.FlowState.{state_of}
-use Rattle.preflow_push.specs.declared.network.Arc.{Arc}
+use Rattle.flow_files.specs.declared.network.Arc.{Arc}
 use Rattle.preflow_push.specs.FlowCalls.{rooms, relabel_method, gain_method, send_method, room_of, flow_call_of, minus}
 use Rattle.preflow_push.specs.FlowStates.{excess_in, flow_in}
 use Rattle.preflow_push.specs.Starts.{set_in, with_height, with_gain, with_flow, filled, empty_shard, empty_rooms}

@@ -9,13 +9,13 @@ use Rattle.std.specs.Int.{w64}
 use Rattle.std.specs.List.{list_any, filter, AllByRecursion}
 use Rattle.std.specs.Ordering.{int_eq}
 use Rattle.gx_base.specs.declared.items.Item.{Item}
-use Rattle.preflow_push.specs.declared.network.Arc.{Arc}
-use Rattle.preflow_push.specs.declared.flow_lines.Said.{Said}
-use Rattle.preflow_push.specs.declared.flow_lines.Said.TheVariants.{Nothing, Problem, Source, Sink, Arc as ArcLine, Wrong}
-use Rattle.preflow_push.specs.Networks.{Net}
+use Rattle.flow_files.specs.declared.network.Arc.{Arc}
+use Rattle.flow_files.specs.declared.flow_lines.Said.{Said}
+use Rattle.flow_files.specs.declared.flow_lines.Said.TheVariants.{Nothing, Problem, Source, Sink, Arc as ArcLine, Wrong}
+use Rattle.flow_files.specs.Networks.{Net}
 use Rattle.preflow_push.specs.Discharge.{node_item, is_node, is_terminal, terminals}
-use Rattle.preflow_push.specs.FlowFiles.{most_capacity, IsOf, IsFlowFile, arcs_of}
-use Rattle.preflow_push.specs.FlowLimits.{IsReadable}
+use Rattle.flow_files.specs.FlowFiles.{most_capacity, IsOf, IsFlowFile, arcs_of}
+use Rattle.flow_files.specs.FlowLimits.{IsReadable}
 use Rattle.preflow_push.specs.FlowStates.{excess_in, flow_in}
 use Rattle.preflow_push.specs.Starts.{is_active, nodes_to, start_states, start_ready}
 use Rattle.preflow_push.specs.StartLaw.{carried, AreCarried, brought, balance, IsOfExcess, IsStart}

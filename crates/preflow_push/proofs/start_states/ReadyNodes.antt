@@ -13,8 +13,8 @@ use Rattle.std.specs.Ordering.{int_cmp, int_eq}
 use Rattle.std.specs.declared.cmp.Ordering.TheVariants.{Less}
 use Rattle.std.specs.Cmp.{int_cmp_total, signed_Decides}
 use Rattle.std.specs.FinMap.{int_cmp-IsAntisymmetric}
-use Rattle.preflow_push.specs.declared.network.Arc.{Arc}
-use Rattle.preflow_push.specs.Networks.{Net}
+use Rattle.flow_files.specs.declared.network.Arc.{Arc}
+use Rattle.flow_files.specs.Networks.{Net}
 use Rattle.preflow_push.specs.Discharge.{is_node}
 use Rattle.preflow_push.specs.Starts.{nodes_to, is_active, start_states}
 use Rattle.preflow_push.proofs.start_states.FlowPours.{active_is_entered}

@@ -10,8 +10,8 @@ use Rattle.std.specs.Ordering.{int_eq}
 use Rattle.gx_base.specs.FlowKind.{height_sort, excess_sort, flow_sort}
 use Rattle.gx_base.specs.States.{State, number_at, with_number}
 use Rattle.gx_base.proofs.CallerLemmas.{same_row-sort, number_at-same}
-use Rattle.preflow_push.specs.declared.network.Arc.{Arc}
-use Rattle.preflow_push.specs.Networks.{Net}
+use Rattle.flow_files.specs.declared.network.Arc.{Arc}
+use Rattle.flow_files.specs.Networks.{Net}
 use Rattle.preflow_push.specs.FlowCalls.{room_of, minus}
 use Rattle.preflow_push.specs.FlowStates.{height_in, excess_in, flow_in}
 use Rattle.preflow_push.specs.Starts.{set_in, with_height, with_gain, with_flow, filled, filled_from, poured, empty_rooms, start_states}

@@ -4,7 +4,7 @@ use Rattle.std.specs.Ordering.{int_cmp, int_eq}
 use Rattle.std.specs.List.{list_any}
 use Rattle.gx_base.specs.Replays.{in_rooms}
 use Rattle.flow_graph.specs.FlowState.{state_of}
-use Rattle.preflow_push.specs.Networks.{view}
+use Rattle.flow_files.specs.Networks.{view}
 use Rattle.preflow_push.specs.Discharge.{is_node}
 use Rattle.preflow_push.specs.Starts.{is_active}
 use Rattle.preflow_push.proofs.starts.active_nodes.Given as goal

@@ -1,7 +1,7 @@
 use Rattle.std.proofs.Common.{◌≡◌, ◌+◌, pos, ◌+ℤ◌, get_or, refl, to_z, of_z, arith}
 use Rattle.std.proofs.lemmas.Int.{ints}
 use Rattle.std.specs.Int.{w64}
-use Rattle.preflow_push.specs.declared.network.Arc.{Arc}
+use Rattle.flow_files.specs.declared.network.Arc.{Arc}
 use Rattle.preflow_push.proofs.start_states.FlowWrites.{shard_rooms}
 use Rattle.preflow_push.proofs.start_states.FlowPours.{poured_more, no_flow_more}
 use Rattle.preflow_push.proofs.starts.pour.Goals as goal

@@ -3,8 +3,8 @@ use Rattle.std.proofs.Common.{ap, ◌∙◌}
 use Rattle.std.specs.List.{list_any}
 use Rattle.std.specs.Ordering.{int_eq}
 use Rattle.gx_base.specs.States.{State}
-use Rattle.preflow_push.specs.declared.network.Arc.{Arc}
-use Rattle.preflow_push.specs.Networks.{view}
+use Rattle.flow_files.specs.declared.network.Arc.{Arc}
+use Rattle.flow_files.specs.Networks.{view}
 use Rattle.preflow_push.specs.Discharge.{is_node, node_item}
 use Rattle.preflow_push.specs.Starts.{is_active}
 use Rattle.preflow_push.proofs.start_states.ReadyNodes.{ready_by}

@@ -3,8 +3,8 @@ use Rattle.std.specs.Prelude.{ℕ, ◌<◌, ◌^◌, if◌then◌else◌, List, 
 use Rattle.text_lines.specs.Lines.{begins_with}
 use Rattle.text_lines.specs.Fields.{fields_of}
 use Rattle.text_lines.specs.Numbers.{number_of}
-use Rattle.preflow_push.specs.declared.flow_lines.Said.{Said}
-use Rattle.preflow_push.specs.declared.flow_lines.Said.TheVariants.{Nothing, Problem, Source, Sink, Arc, Wrong}
+use Rattle.flow_files.specs.declared.flow_lines.Said.{Said}
+use Rattle.flow_files.specs.declared.flow_lines.Said.TheVariants.{Nothing, Problem, Source, Sink, Arc, Wrong}
 
 -- three fields and no more
 abbrev pub three_of : List (List ℕ) → Option (List ℕ × List ℕ × List ℕ)

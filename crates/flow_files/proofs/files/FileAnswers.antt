@@ -9,12 +9,12 @@ use Rattle.gx_base.specs.declared.inputs.What.{What}
 use Rattle.gx_base.specs.declared.inputs.What.TheVariants.{File, Nodes, Arcs, Points, Nets, Horizon, Size}
 use Rattle.gx_base.specs.declared.inputs.InputFault.{InputFault}
 use Rattle.gx_base.specs.declared.inputs.InputFault.TheVariants.{Line, Large, NoMemory}
-use Rattle.preflow_push.specs.declared.network.Network.{Network}
-use Rattle.preflow_push.specs.Networks.{Net, view}
-use Rattle.preflow_push.specs.FlowFiles.{IsFlowFile}
-use Rattle.preflow_push.specs.FlowLimits.{most_nodes, most_arcs, IsWithinLimits, Passes, IsReadable, IsTooLarge, CallsFor, CallsForOne, answer_of, sized}
-use Rattle.preflow_push.specs.FlowReading.{flow_of, AnswersReading}
-use Rattle.preflow_push.proofs.files.FirstFaults.{read_flow, flow_is_read, first_fault, one_fault, no_fault}
+use Rattle.flow_files.specs.declared.network.Network.{Network}
+use Rattle.flow_files.specs.Networks.{Net, view}
+use Rattle.flow_files.specs.FlowFiles.{IsFlowFile}
+use Rattle.flow_files.specs.FlowLimits.{most_nodes, most_arcs, IsWithinLimits, Passes, IsReadable, IsTooLarge, CallsFor, CallsForOne, answer_of, sized}
+use Rattle.flow_files.specs.FlowReading.{flow_of, AnswersReading}
+use Rattle.flow_files.proofs.files.FirstFaults.{read_flow, flow_is_read, first_fault, one_fault, no_fault}
 
 -- A text is a flow file of at most one network.
 pub one_network : (bytes : List ℕ) (m n : Net) → IsFlowFile bytes m → IsFlowFile bytes n → m ≡ n

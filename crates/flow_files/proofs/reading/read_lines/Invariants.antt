@@ -1,6 +1,6 @@
 use Rattle.std.proofs.Common.{◌≡◌, ◌+◌, ◌≤◌, length}
-use Rattle.preflow_push.specs.FlowReading.{read_from, saids_of, flow_of, state, AreSmall}
-use Rattle.preflow_push.proofs.reading.read_lines.Given as goal
+use Rattle.flow_files.specs.FlowReading.{read_from, saids_of, flow_of, state, AreSmall}
+use Rattle.flow_files.proofs.reading.read_lines.Given as goal
 
 abbrev pub invariant-loop-rest : goal.invariant-loop-rest
 invariant-loop-rest l = record {

@@ -4,14 +4,14 @@ use Rattle.std.specs.Prelude.{◌≡◌, ℕ, ◌+◌, ◌<◌, ◌^◌, pos, Bo
 use Rattle.text_lines.specs.Lines.{lines_of}
 use Rattle.gx_base.specs.declared.inputs.InputFault.{InputFault}
 use Rattle.gx_base.specs.declared.inputs.InputFault.TheVariants as faults
-use Rattle.preflow_push.specs.declared.network.Arc as arcs
-use Rattle.preflow_push.specs.declared.network.Network.{Network}
-use Rattle.preflow_push.specs.declared.flow_lines.Said.{Said}
-use Rattle.preflow_push.specs.declared.flow_lines.Said.TheVariants.{Nothing, Problem, Source, Sink, Arc, Wrong}
-use Rattle.preflow_push.specs.declared.reading.LinesRead.{LinesRead}
-use Rattle.preflow_push.specs.FlowLines.{said_by}
-use Rattle.preflow_push.specs.FlowFiles.{most_capacity, new_arc}
-use Rattle.preflow_push.specs.Networks.{Net, view}
+use Rattle.flow_files.specs.declared.network.Arc as arcs
+use Rattle.flow_files.specs.declared.network.Network.{Network}
+use Rattle.flow_files.specs.declared.flow_lines.Said.{Said}
+use Rattle.flow_files.specs.declared.flow_lines.Said.TheVariants.{Nothing, Problem, Source, Sink, Arc, Wrong}
+use Rattle.flow_files.specs.declared.reading.LinesRead.{LinesRead}
+use Rattle.flow_files.specs.FlowLines.{said_by}
+use Rattle.flow_files.specs.FlowFiles.{most_capacity, new_arc}
+use Rattle.flow_files.specs.Networks.{Net, view}
 
 -- what the lines said so far: the problem (nodes and arcs), the terminals and the arcs
 pub record FileState : Type 0 where

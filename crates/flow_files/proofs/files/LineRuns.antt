@@ -4,13 +4,13 @@ use Rattle.std.specs.Prelude.{pos}
 use Rattle.std.specs.List.{AllByRecursion}
 use Rattle.std.proofs.lemmas.Bool.{le-leb, leb-true, eqb-true}
 use Rattle.std.proofs.lemmas.List.{append-nil}
-use Rattle.preflow_push.specs.declared.flow_lines.Said.{Said}
-use Rattle.preflow_push.specs.declared.flow_lines.Said.TheVariants.{Nothing, Problem, Source, Sink, Arc, Wrong}
-use Rattle.preflow_push.specs.declared.network.Arc as arcs
-use Rattle.preflow_push.specs.FlowReading.{FileState, at_first, may_be_terminal, may_go, with_line, whole, whole_of, read_to_end, then_read, read_from}
-use Rattle.preflow_push.specs.Networks.{Net}
-use Rattle.preflow_push.specs.FlowFiles.{new_arc, spoken, sources, sinks, arcs_of, IsNode, IsOf, IsFlowOf}
-use Rattle.preflow_push.proofs.files.LineTests.{stand_is, stand_so, go_is, go_so, free_so, eq_so, Stands}
+use Rattle.flow_files.specs.declared.flow_lines.Said.{Said}
+use Rattle.flow_files.specs.declared.flow_lines.Said.TheVariants.{Nothing, Problem, Source, Sink, Arc, Wrong}
+use Rattle.flow_files.specs.declared.network.Arc as arcs
+use Rattle.flow_files.specs.FlowReading.{FileState, at_first, may_be_terminal, may_go, with_line, whole, whole_of, read_to_end, then_read, read_from}
+use Rattle.flow_files.specs.Networks.{Net}
+use Rattle.flow_files.specs.FlowFiles.{new_arc, spoken, sources, sinks, arcs_of, IsNode, IsOf, IsFlowOf}
+use Rattle.flow_files.proofs.files.LineTests.{stand_is, stand_so, go_is, go_so, free_so, eq_so, Stands}
 
 -- ---- the state after some lines
 

@@ -3,10 +3,10 @@
 ghost use Rattle.std.specs.Prelude.{◌≡◌, ◌⊎◌, Result, Some, None, Ok, Err, IfOk, IsTrue, IsFalse};
 ghost use Rattle.gx_base.specs.declared.inputs.InputFault as fault;
 ghost use Rattle.gx_base.specs.declared.inputs.InputFault.TheVariants as faults;
-ghost use Rattle.preflow_push.specs.FlowLimits.{CallsFor, answer_of, sized};
-ghost use Rattle.preflow_push.specs.FlowLines.{IsSmall};
-ghost use Rattle.preflow_push.specs.FlowReading.{state, at_first, with_line, whole, AreSmall, flow_of, AnswersReading, read_to_end, is_node_number, is_other_than, may_be_terminal, may_go};
-ghost use Rattle.preflow_push.specs.Networks.{Net, view};
+ghost use Rattle.flow_files.specs.FlowLimits.{CallsFor, answer_of, sized};
+ghost use Rattle.flow_files.specs.FlowLines.{IsSmall};
+ghost use Rattle.flow_files.specs.FlowReading.{state, at_first, with_line, whole, AreSmall, flow_of, AnswersReading, read_to_end, is_node_number, is_other_than, may_be_terminal, may_go};
+ghost use Rattle.flow_files.specs.Networks.{Net, view};
 
 use super::flow_lines::{Said, said_by};
 use super::network::{Arc, Network};

@@ -2,8 +2,8 @@
 use Rattle.std.proofs.Common.{◌≡◌, ℕ, ◌<◌, Bool, true, false, not, ◌&&◌, eqb, leb, ltb, Option, Some, None, refl, sym, ◌∙◌, arith}
 use Rattle.std.proofs.lemmas.Bool.{lt-ltb, le-leb, ltb-true, leb-true, eqb-false}
 use Rattle.std.proofs.lemmas.Bool.Decides.{nat_tests}
-use Rattle.preflow_push.specs.FlowReading.{is_node_number, is_other_than, may_be_terminal, may_go}
-use Rattle.preflow_push.specs.FlowFiles.{most_capacity, IsNode, Joins}
+use Rattle.flow_files.specs.FlowReading.{is_node_number, is_other_than, may_be_terminal, may_go}
+use Rattle.flow_files.specs.FlowFiles.{most_capacity, IsNode, Joins}
 
 and_true : (x y : Bool) → (x && y) ≡ true → (x ≡ true) × (y ≡ true)
 and_true true y h = (refl, h)

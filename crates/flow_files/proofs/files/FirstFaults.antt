@@ -3,17 +3,17 @@ use Rattle.std.proofs.Common.{◌≡◌, ℕ, zero, suc, ◌+◌, ◌-◌, ◌<�
 use Rattle.std.specs.Prelude.{pos}
 use Rattle.std.proofs.lemmas.Bool.{cases_eq, cases_lt}
 use Rattle.std.proofs.lemmas.List.{append-nil, map-append, take-map, length-map, take_all, take-take, take-append-drop}
-use Rattle.preflow_push.specs.declared.flow_lines.Said.{Said}
-use Rattle.preflow_push.specs.declared.flow_lines.Said.TheVariants.{Problem, Source, Sink, Arc}
-use Rattle.preflow_push.specs.declared.network.Arc as arcs
+use Rattle.flow_files.specs.declared.flow_lines.Said.{Said}
+use Rattle.flow_files.specs.declared.flow_lines.Said.TheVariants.{Problem, Source, Sink, Arc}
+use Rattle.flow_files.specs.declared.network.Arc as arcs
 use Rattle.text_lines.specs.Lines.{lines_of}
 use Rattle.text_lines.specs.Numbers.{number_of, digits_value_of}
-use Rattle.preflow_push.specs.FlowLines.{said_by}
-use Rattle.preflow_push.specs.FlowReading.{FileState, at_first, may_be_terminal, with_line, whole, read_to_end, then_read, read_from, flow_of}
-use Rattle.preflow_push.specs.Networks.{Net}
-use Rattle.preflow_push.specs.FlowFiles.{new_arc, AreFlow, CanGoOn, IsFirstBadLine}
-use Rattle.preflow_push.proofs.files.LineTests.{stand_so, go_so, free_so, eq_so, Stands}
-use Rattle.preflow_push.proofs.files.LineRuns.{then_after, after, st, Good, good_source, good_sink, good_arc, begins, is_flow, flow_read, read_is, whole_read}
+use Rattle.flow_files.specs.FlowLines.{said_by}
+use Rattle.flow_files.specs.FlowReading.{FileState, at_first, may_be_terminal, with_line, whole, read_to_end, then_read, read_from, flow_of}
+use Rattle.flow_files.specs.Networks.{Net}
+use Rattle.flow_files.specs.FlowFiles.{new_arc, AreFlow, CanGoOn, IsFirstBadLine}
+use Rattle.flow_files.proofs.files.LineTests.{stand_so, go_so, free_so, eq_so, Stands}
+use Rattle.flow_files.proofs.files.LineRuns.{then_after, after, st, Good, good_source, good_sink, good_arc, begins, is_flow, flow_read, read_is, whole_read}
 
 after_append : (xs ys : List Said) (s : FileState) → after (xs ++ ys) s ≡ then_after (after xs s) (after ys)
 after_append [] ys s = refl

@@ -1,7 +1,7 @@
 use Rattle.std.proofs.Common.{Err, ◌∙◌, ap}
 use Rattle.std.proofs.lemmas.Result.{err_from_is_err_and}
-use Rattle.preflow_push.proofs.files.FileAnswers.{Told, told_refusal, told_network, told_only}
-use Rattle.preflow_push.proofs.reading.read_max.Goals as goal
+use Rattle.flow_files.proofs.files.FileAnswers.{Told, told_refusal, told_network, told_only}
+use Rattle.flow_files.proofs.reading.read_max.Goals as goal
 
 told_at_refusal : (c : goal.After-from_residual) → Told c.args.bytes.now c.from_residual.result
 told_at_refusal c =

@@ -2,7 +2,7 @@
 
 ghost use Rattle.std.specs.Prelude.{◌≡◌, option_map};
 ghost use Rattle.text_lines.specs.Fields.{fields_of};
-ghost use Rattle.preflow_push.specs.FlowLines.{said_by, three_of, two_of, problem_of, terminal_of, arc_of, IsSmall};
+ghost use Rattle.flow_files.specs.FlowLines.{said_by, three_of, two_of, problem_of, terminal_of, arc_of, IsSmall};
 
 use text_lines::{next_field, number};
 

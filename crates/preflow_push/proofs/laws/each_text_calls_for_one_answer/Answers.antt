@@ -1,5 +1,0 @@
-use Rattle.preflow_push.proofs.files.FileAnswers.{calls_for_one}
-use Rattle.preflow_push.proofs.laws.each_text_calls_for_one_answer.Goals as goal
-
-pub returns : goal.returns
-returns c = calls_for_one
