@@ -1,4 +1,4 @@
-use Rattle.std.proofs.Common.{◌≡◌, false, [], sym, ◌∙◌}
+use Rattle.std.proofs.Common.{◌≡◌, false, sym, ◌∙◌}
 use Rattle.gx_base.specs.Kinds.{kind_number}
 use Rattle.cond_syntax.specs.Tokens.{tokens_in}
 use Rattle.cond_syntax.specs.Fronts.{front_of, all_known}
