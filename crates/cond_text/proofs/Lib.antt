@@ -1,3 +1,2 @@
-pub mod methods
 pub mod reading
 pub mod texts

@@ -1,7 +1,7 @@
 -- What waits for its right side, in frames.
 use Rattle.std.specs.Prelude.{◌≡◌, ℕ, zero, suc, min, List, [], ◌∷◌, Option, Some, None}
 use Rattle.cond_syntax.specs.WrittenConditions.{WrittenCondition}
-use Rattle.cond_text.specs.Machine.{Frame, OrLeft, AndLeft, Negation, Group, ReadingState, Operand, Done}
+use Rattle.cond_terms.specs.Machine.{Frame, OrLeft, AndLeft, Negation, Group, ReadingState, Operand, Done}
 use Rattle.cond_text.specs.Drafts.{IsDraft, IsLeft, either_of}
 use Rattle.cond_text.specs.declared.drafts.Draft.{Draft}
 use Rattle.cond_text.specs.declared.levels.Level.{Level}

@@ -1,14 +1,8 @@
 pub mod Answered
-pub mod CodeTokens
-pub mod Comparisons
 pub mod Drafts
 pub mod Found
 pub mod Levels
 pub mod LineAnswers
-pub mod LineForms
-pub mod Machine
 pub mod Pairs
 pub mod Readers
-pub mod Sources
 pub mod TextFaults
-pub mod TokenSteps

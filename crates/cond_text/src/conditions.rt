@@ -7,8 +7,9 @@ ghost use Rattle.cond_text.specs.Found.{IsFound};
 ghost use Rattle.cond_text.specs.Answered.{found_of};
 
 use crate::drafts::Draft;
+use crate::failures::Failure;
 use crate::readers::read_tokens;
-use crate::sources::{Source, Stop};
+use cond_terms::{Source, Stop};
 use gx_base::{Cond, Kind, NoMemory};
 use std::alloc::Global;
 
@@ -31,9 +32,9 @@ pub(crate) fn read_condition(alloc: Global, kind: Kind, text: &[u8]) -> Result<F
     let mut source = Source::new(kind, text);
     match read_tokens(alloc, &mut source) {
         Ok(draft) => Ok(answer(draft, source.all_known())),
-        Err(Stop::Cut) => Ok(answer(Draft::Lost, source.all_known())),
-        Err(Stop::Wrong) => Ok(Found::Malformed),
-        Err(Stop::NoMemory) => Err(NoMemory),
+        Err(Failure::Stopped(Stop::Cut)) => Ok(answer(Draft::Lost, source.all_known())),
+        Err(Failure::Stopped(Stop::Wrong)) => Ok(Found::Malformed),
+        Err(Failure::NoMemory) => Err(NoMemory),
     }
 }
 

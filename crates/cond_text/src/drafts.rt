@@ -2,10 +2,13 @@
 
 ghost use Rattle.std.specs.Prelude.{◌≡◌, ◌≤◌, ◌+◌, ℕ, min, max, MatchOption, IfOk};
 ghost use Rattle.cond_syntax.specs.WrittenConditions.{WrittenCondition, And, Or, Not};
+ghost use Rattle.gx_base.specs.Kinds.{kind_number};
+ghost use Rattle.cond_terms.specs.Comparisons.{comparison_spelled};
 ghost use Rattle.cond_text.specs.Drafts as drafts;
 ghost use Rattle.cond_text.specs.Drafts.{IsDraft};
 
-use gx_base::{Cond, NoMemory, boxed};
+use cond_terms::Comparison;
+use gx_base::{Cond, Kind, NoMemory, boxed};
 use std::alloc::Global;
 
 /// How deep a condition may be.
@@ -18,6 +21,16 @@ pub(crate) enum Draft {
     Lost,
     /// The condition, and how deep it is.
     Kept(Cond, u32),
+}
+
+/// What is kept of a comparison.
+pub(crate) fn draft_of(comparison: Comparison<'_>, kind: Kind) -> Draft
+    ensures { IsDraft (kind_number kind) (comparison_spelled comparison.entry) result }
+{
+    match comparison.condition(kind) {
+        Some(cond) => Draft::Kept(cond, 1),
+        None => Draft::Lost,
+    }
 }
 
 /// A draft's `not`.

@@ -2,7 +2,7 @@
 
 ghost use Rattle.std.specs.Prelude.{ℕ, List, ◌∷◌, Option, IfOk};
 ghost use Rattle.cond_syntax.specs.WrittenConditions.{WrittenCondition};
-ghost use Rattle.cond_text.specs.Machine.{Frame, Negation, AndLeft, unit_done, or_read};
+ghost use Rattle.cond_terms.specs.Machine.{Frame, Negation, AndLeft, unit_done, or_read};
 ghost use Rattle.cond_text.specs.Drafts.{IsDraft, IsLeft, both_of};
 ghost use Rattle.cond_text.specs.Levels.{IsLevel, IsDraftConjunction, LeadsConjunction, LeadsLevel, IsWhole, outside};
 

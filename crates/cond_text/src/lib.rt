@@ -4,19 +4,16 @@
 //! wanted, or the text's first fault with its line. What `print_table` writes is read back as a table with the same
 //! rows, and what `print_cond` writes as the condition of a row, where conditions are at most 64 deep, constants have at
 //! most 18 digits, places of values are at most 7, and state functions stand in tables of domain books alone. What the
-//! language is stands in `cond_syntax`; `cond_print` prints.
+//! language is stands in `cond_syntax`; `cond_terms` reads its tokens and comparisons, and `cond_print` prints.
 #![tactic(auto)]
 
 mod conditions;
 mod drafts;
+mod failures;
 mod faults;
 mod levels;
 mod readers;
-mod sources;
 mod tables;
-mod terms;
-mod tokens;
-mod words;
 
 pub use cond_print::{print_cond, print_table};
 pub use faults::TextFault;

@@ -3,19 +3,18 @@
 ghost use Rattle.std.specs.Prelude.{ℕ, List, ◌∷◌, [], Option, reverse, IfOk};
 ghost use Rattle.gx_base.specs.Kinds.{kind_number};
 ghost use Rattle.cond_syntax.specs.WrittenConditions.{WrittenCondition};
-ghost use Rattle.cond_text.specs.Machine as machine;
-ghost use Rattle.cond_text.specs.Machine.{ReadingState, Frame, Operand, step, unit_done, close_read, whole};
-ghost use Rattle.cond_text.specs.CodeTokens.{token_seen};
+ghost use Rattle.cond_terms.specs.Machine as machine;
+ghost use Rattle.cond_terms.specs.Machine.{ReadingState, Frame, Operand, step, unit_done, close_read, whole};
+ghost use Rattle.cond_terms.specs.CodeTokens.{token_seen};
 ghost use Rattle.cond_text.specs.Drafts.{IsDraft};
 ghost use Rattle.cond_text.specs.Levels.{IsLevel, IsDraftConjunction};
-ghost use Rattle.cond_text.specs.Sources.{IsLater, IsStopped};
-ghost use Rattle.cond_text.specs.Readers.{AreOutside, HasReached, IsTaken, LeadsReader, LeadsUnit, IsEnded, IsReadWhole};
+ghost use Rattle.cond_terms.specs.Sources.{IsLater, IsStopped};
+ghost use Rattle.cond_text.specs.Readers.{AreOutside, HasReached, IsTaken, IsFailed, LeadsReader, LeadsUnit, IsEnded, IsReadWhole};
 
-use crate::drafts::Draft;
+use crate::drafts::{Draft, draft_of};
+use crate::failures::Failure;
 use crate::levels::{Conjunction, Level};
-use crate::sources::{Next, Source, Stop};
-use crate::terms::read_comparison;
-use crate::tokens::TextToken;
+use cond_terms::{Next, Source, Stop, TextToken, read_comparison};
 use gx_base::{Cond, NoMemory};
 use std::alloc::Global;
 
@@ -60,9 +59,9 @@ impl Reader {
     }
 
     /// What has been read after one more token, or after all of the comparison that it begins.
-    fn take<'a>(self, source: &mut Source<'a>, token: TextToken<'a>) -> Result<Self, Stop>
+    fn take<'a>(self, source: &mut Source<'a>, token: TextToken<'a>) -> Result<Self, Failure>
         ensures later { IsLater source.old source.new }
-        ensures stopped { IsStopped source.new result }
+        ensures failed { IsFailed source.new result }
         ensures leads { (state : ReadingState) → HasReached (kind_number source.old.kind) self state → LeadsReader (kind_number source.old.kind) source.old source.new (step state (token_seen token.entry)) result }
     {
         let Reader {
@@ -74,13 +73,13 @@ impl Reader {
             Innermost::Due(level) => take_due(alloc, outer, level, source, token),
             Innermost::Done(conjunction) => match take_done(alloc, outer, conjunction, token)? {
                 Some(reader) => Ok(reader),
-                None => Err(Stop::Wrong),
+                None => Err(Failure::Stopped(Stop::Wrong)),
             },
         }
     }
 
     /// The condition that has been read.
-    fn end(self) -> Result<Draft, Stop>
+    fn end(self) -> Result<Draft, Failure>
         ensures { (kind : ℕ) (state : ReadingState) → HasReached kind self state → IsEnded kind (whole state) result }
     {
         let Reader {
@@ -89,10 +88,10 @@ impl Reader {
             place,
         } = self;
         let Innermost::Done(conjunction) = place else {
-            return Err(Stop::Wrong);
+            return Err(Failure::Stopped(Stop::Wrong));
         };
         if !outer.is_empty() {
-            return Err(Stop::Wrong);
+            return Err(Failure::Stopped(Stop::Wrong));
         }
         let draft = conjunction.condition(alloc)?;
         Ok(draft)
@@ -149,9 +148,9 @@ fn take_due<'a>(
     level: Level,
     source: &mut Source<'a>,
     token: TextToken<'a>,
-) -> Result<Reader, Stop>
+) -> Result<Reader, Failure>
     ensures later { IsLater source.old source.new }
-    ensures stopped { IsStopped source.new result }
+    ensures failed { IsFailed source.new result }
     ensures leads { (base : Option (List Frame)) (frames : List Frame) → AreOutside (kind_number source.old.kind) (reverse outer.items) base → IsLevel (kind_number source.old.kind) level base frames → LeadsReader (kind_number source.old.kind) source.old source.new (step (Operand frames) (token_seen token.entry)) result }
 {
     match token {
@@ -175,7 +174,7 @@ fn read_unit<'a>(source: &mut Source<'a>, token: TextToken<'a>) -> Result<Draft,
         TextToken::FalseKey => Ok(Draft::Kept(Cond::False, 1)),
         _ => {
             let comparison = read_comparison(source, token)?;
-            Ok(comparison.draft(source.kind()))
+            Ok(draft_of(comparison, source.kind()))
         }
     }
 }
@@ -201,7 +200,7 @@ fn take_done(
 }
 
 /// Reads the tokens of a condition.
-pub(crate) fn read_tokens(alloc: Global, source: &mut Source<'_>) -> Result<Draft, Stop>
+pub(crate) fn read_tokens(alloc: Global, source: &mut Source<'_>) -> Result<Draft, Failure>
     ensures later { IsLater source.old source.new }
     ensures whole { IsReadWhole source.old source.new result }
 {
@@ -210,7 +209,7 @@ pub(crate) fn read_tokens(alloc: Global, source: &mut Source<'_>) -> Result<Draf
         match source.next() {
             Next::Read(token) => reader = reader.take(source, token)?,
             Next::End => return reader.end(),
-            Next::Cut => return Err(Stop::Cut),
+            Next::Cut => return Err(Failure::Stopped(Stop::Cut)),
         }
     }
 }

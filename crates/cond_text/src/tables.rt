@@ -1,7 +1,6 @@
 //! Reading a table.
 
 mod line_faults;
-mod lines;
 mod reader;
 mod row_lines;
 

@@ -6,7 +6,7 @@ use Rattle.gx_base.specs.Conditions.{Condition}
 use Rattle.cond_syntax.specs.Tokens.{Token}
 use Rattle.cond_syntax.specs.WrittenConditions.{WrittenCondition, depth_of, condition_in}
 use Rattle.cond_syntax.specs.Fronts.{front_of, all_known}
-use Rattle.cond_text.specs.Machine.{Cut, Whole, reading_of}
+use Rattle.cond_terms.specs.Machine.{Cut, Whole, reading_of}
 use Rattle.cond_syntax.specs.TableTexts.{most_deep}
 use Rattle.cond_syntax.proofs.CallerLemmas.{whole_is_spelled, whole_is_not_cut, whole_has_form, cut_is_cut, cut_has_form, known_words, unknown_word, front_whole}
 use Rattle.cond_text.specs.Answered.{found_of}

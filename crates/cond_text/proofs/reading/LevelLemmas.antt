@@ -1,7 +1,7 @@
 -- What frames come to once a unit has been read.
 use Rattle.std.proofs.Common.{◌≡◌, ℕ, zero, suc, List, ◌∷◌, Option, Some, None, refl, ap, sym, ◌∙◌}
 use Rattle.cond_syntax.specs.WrittenConditions.{WrittenCondition, Not}
-use Rattle.cond_text.specs.Machine.{Frame, OrLeft, Operand, Done, unit_done, or_read, close_read}
+use Rattle.cond_terms.specs.Machine.{Frame, OrLeft, Operand, Done, unit_done, or_read, close_read}
 use Rattle.cond_text.specs.Drafts.{IsDraft, IsLeft, negated_by, both_of, either_of}
 use Rattle.cond_text.specs.declared.drafts.Draft.{Draft}
 use Rattle.cond_text.specs.Levels.{outside, or_frames, and_frames, not_frames}

@@ -1,27 +1,28 @@
 -- What tokens lead to, and the levels of open parentheses.
 use Rattle.std.proofs.Common.{◌≡◌, ℕ, List, [], ◌∷◌, ◌++◌, Option, Some, None, Result, Ok, Err, reverse, refl, ap, sym, ◌∙◌}
 use Rattle.std.proofs.lemmas.List.{reverse-append, reverse-reverse}
-use Rattle.cond_text.specs.Machine.{ReadingState, Frame, operand_read, conjunction_read, First, Operand, whole, whole_or_wrong}
-use Rattle.cond_text.specs.Machine as machine
+use Rattle.cond_terms.specs.Machine.{ReadingState, Frame, operand_read, conjunction_read, First, Operand, whole, whole_or_wrong}
+use Rattle.cond_terms.specs.Machine as machine
 use Rattle.cond_syntax.specs.WrittenConditions.{WrittenCondition}
-use Rattle.cond_text.specs.CodeTokens.{token_seen}
-use Rattle.cond_text.specs.Comparisons.{term_begun}
+use Rattle.cond_terms.specs.CodeTokens.{token_seen}
+use Rattle.cond_terms.specs.Comparisons.{term_begun}
 use Rattle.cond_text.specs.Drafts.{either_of}
 use Rattle.cond_text.specs.Levels.{IsLevel, IsDraftConjunction, IsWhole, LeadsLevel, LeadsConjunction, outside, or_frames}
-use Rattle.cond_text.specs.Readers.{AreOutside, IsReaderPlace, HasReached, IsTaken, IsEnded, IsReadWhole, unit_begun}
-use Rattle.cond_text.specs.Sources.{reading, Stops, IsStoppedAt, IsAtEnd}
+use Rattle.cond_text.specs.Readers.{AreOutside, IsReaderPlace, HasReached, IsTaken, IsFailedAt, Fails, IsEnded, IsReadWhole, unit_begun}
+use Rattle.cond_terms.specs.Sources.{reading, IsAtEnd}
 use Rattle.gx_base.specs.Kinds.{kind_number}
 use Rattle.cond_text.specs.declared.drafts.Draft.{Draft}
-use Rattle.cond_text.specs.declared.sources.Source.{Source}
-use Rattle.cond_text.specs.declared.sources.Stop.{Stop}
-use Rattle.cond_text.specs.declared.sources.Stop.TheVariants.{Wrong, Cut, NoMemory}
+use Rattle.cond_terms.specs.declared.sources.Source.{Source}
+use Rattle.cond_terms.specs.declared.sources.Stop.TheVariants.{Wrong, Cut}
+use Rattle.cond_text.specs.declared.failures.Failure.{Failure}
+use Rattle.cond_text.specs.declared.failures.Failure.TheVariants.{Stopped, NoMemory}
 use Rattle.cond_text.specs.declared.levels.Conjunction.{Conjunction}
 use Rattle.cond_text.specs.declared.readers.Innermost.{Innermost}
 use Rattle.cond_text.specs.declared.readers.Innermost.TheVariants.{Due, Done}
 use Rattle.cond_text.specs.declared.readers.Reader.{Reader}
 use Rattle.cond_text.specs.declared.levels.Level.{Level}
-use Rattle.cond_text.specs.declared.tokens.TextToken.{TextToken}
-use Rattle.cond_text.specs.declared.tokens.TextToken.TheVariants.{NotKey, TrueKey, FalseKey, Open}
+use Rattle.cond_terms.specs.declared.tokens.TextToken.{TextToken}
+use Rattle.cond_terms.specs.declared.tokens.TextToken.TheVariants.{NotKey, TrueKey, FalseKey, Open}
 
 pub operand_read-other : (frames : List Frame) (t : TextToken) → (t ≡ NotKey → ⊥) → (t ≡ Open → ⊥) → operand_read frames (token_seen t) ≡ unit_begun frames (token_seen t)
 operand_read-other frames NotKey isnt isnt' = absurd (isnt refl)
@@ -95,13 +96,13 @@ taken_none kind state taken is none = rw none at is
 
 -- ---- the end of reading
 
-pub stops_whole : (old now new : Source) (state : Option ReadingState) (stop : Stop) → reading (Some (Operand [])) old ≡ reading state now → Stops now state stop → IsStoppedAt new stop → IsReadWhole old new (Err stop)
-stops_whole old now new state Wrong same stops at = same ∙ stops
-stops_whole old now new state Cut same stops at = (same ∙ stops, at)
-stops_whole old now new state NoMemory same stops at = tt
+pub fails_whole : (old now new : Source) (state : Option ReadingState) (failure : Failure) → reading (Some (Operand [])) old ≡ reading state now → Fails now state failure → IsFailedAt new failure → IsReadWhole old new (Err failure)
+fails_whole old now new state (Stopped Wrong) same fails at = same ∙ fails
+fails_whole old now new state (Stopped Cut) same fails at = (same ∙ fails, at)
+fails_whole old now new state NoMemory same fails at = tt
 
-pub ended_whole : (old new : Source) (given : Option WrittenCondition) (result : Result Draft Stop) → reading (Some (Operand [])) old ≡ whole_or_wrong given → IsAtEnd new → IsEnded (kind_number old.kind) given result → IsReadWhole old new result
+pub ended_whole : (old new : Source) (given : Option WrittenCondition) (result : Result Draft Failure) → reading (Some (Operand [])) old ≡ whole_or_wrong given → IsAtEnd new → IsEnded (kind_number old.kind) given result → IsReadWhole old new result
 ended_whole old new given (Ok draft) is at ended = (ended.0, ended.1, is ∙ ap whole_or_wrong ended.2, at)
-ended_whole old new given (Err Wrong) is at ended = is ∙ ap whole_or_wrong ended
-ended_whole old new given (Err Cut) is at ended = absurd ended
+ended_whole old new given (Err (Stopped Wrong)) is at ended = is ∙ ap whole_or_wrong ended
+ended_whole old new given (Err (Stopped Cut)) is at ended = absurd ended
 ended_whole old new given (Err NoMemory) is at ended = tt

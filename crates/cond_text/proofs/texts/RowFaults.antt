@@ -9,7 +9,7 @@ use Rattle.cond_syntax.specs.Tokens.{Token, Word, TypeKey, Colon, tokens_in}
 use Rattle.cond_syntax.specs.Fronts.{front_of, IsOfForm, all_known}
 use Rattle.cond_syntax.specs.TableTexts as table
 use Rattle.cond_syntax.specs.TableTexts.{SoFar, Untyped, Typed, HasFault, IsTypeLine, IsRowLine, IsWanted, AreMethods, IsTooDeep, Spells, IsRead, is_skipped, kind_named, type_line, row, no_type, no_form, unknown_method, unknown_kind, unknown_word, second_type, second_row, too_deep}
-use Rattle.cond_text.specs.LineForms.{BeginsRow}
+use Rattle.cond_terms.specs.LineForms.{BeginsRow}
 use Rattle.cond_text.specs.LineAnswers.{IsRefused, IsNoPlace}
 use Rattle.cond_text.specs.declared.tables.line_faults.LineFault.{LineFault}
 use Rattle.cond_text.specs.declared.tables.line_faults.LineFault.TheVariants.{Syntax, UnknownMethod, UnknownName, Twice, TooDeep, NoMemory}

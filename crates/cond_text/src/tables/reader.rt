@@ -3,14 +3,13 @@
 ghost use Rattle.std.specs.Prelude.{◌≡◌, ◌≢◌, ◌↔◌, ℕ, List, false, IsTrue, IfErr, OnOk, Contains};
 ghost use Rattle.cond_syntax.specs.Tokens.{Token, tokens_in};
 ghost use Rattle.cond_syntax.specs.TableTexts.{is_skipped, IsTypeLine, IsRead};
-ghost use Rattle.cond_text.specs.LineForms.{BeginsRow};
+ghost use Rattle.cond_terms.specs.LineForms.{BeginsRow};
 ghost use Rattle.cond_text.specs.LineAnswers.{so_far, IsRefused};
 ghost use Rattle.cond_text.specs.declared.tables.line_faults.LineFault.TheVariants as refused;
 
 use super::line_faults::LineFault;
-use super::lines::{Said, is_skipped, said_by};
 use super::row_lines::RowLines;
-use crate::words::kind_named;
+use cond_terms::{Said, is_skipped, kind_named, said_by};
 use gx_base::Kind;
 use std::alloc::Global;
 

@@ -8,7 +8,7 @@ ghost use Rattle.cond_text.specs.Pairs.{has_pair};
 
 use super::line_faults::LineFault;
 use crate::conditions::{Found, read_condition};
-use crate::words::method_named;
+use cond_terms::method_named;
 use gx_base::{Cond, Kind, NoMemory, Table};
 use std::alloc::Global;
 
@@ -28,7 +28,7 @@ impl RowLines {
     ghost use Rattle.gx_base.specs.Conditions.{condition_of};
     ghost use Rattle.cond_syntax.specs.Tokens.{Token, tokens_in};
     ghost use Rattle.cond_syntax.specs.TableTexts.{Typed, is_skipped, IsRead};
-    ghost use Rattle.cond_text.specs.LineForms.{BeginsRow};
+    ghost use Rattle.cond_terms.specs.LineForms.{BeginsRow};
     ghost use Rattle.cond_text.specs.LineAnswers.{IsRefused, IsNoPlace};
 
     /// No rows of a kind's table.

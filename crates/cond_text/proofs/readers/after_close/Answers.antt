@@ -1,5 +1,5 @@
 use Rattle.std.proofs.Common.{ap, ◌∙◌}
-use Rattle.cond_text.specs.Machine.{close_read, unit_done}
+use Rattle.cond_terms.specs.Machine.{close_read, unit_done}
 use Rattle.cond_text.specs.Drafts.{either_of}
 use Rattle.cond_text.specs.Levels.{outside, or_frames}
 use Rattle.cond_text.proofs.reading.LevelLemmas.{close_read-some}

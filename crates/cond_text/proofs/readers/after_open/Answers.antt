@@ -1,5 +1,5 @@
 use Rattle.std.proofs.Common.{reverse, Some, ◌∷◌}
-use Rattle.cond_text.specs.Machine.{Group}
+use Rattle.cond_terms.specs.Machine.{Group}
 use Rattle.cond_text.specs.Readers.{AreOutside}
 use Rattle.cond_text.proofs.reading.ReaderLemmas.{AreOutside-push}
 use Rattle.cond_text.proofs.readers.after_open.Goals as goal

@@ -1,7 +1,7 @@
 use Rattle.std.proofs.Common.{◌≡◌, [], Some, length}
 use Rattle.gx_base.specs.Kinds.{kind_number}
-use Rattle.cond_text.specs.Machine.{ReadingState, Operand}
-use Rattle.cond_text.specs.Sources.{IsLater, reading}
+use Rattle.cond_terms.specs.Machine.{ReadingState, Operand}
+use Rattle.cond_terms.specs.Sources.{IsLater, reading}
 use Rattle.cond_text.specs.Readers.{HasReached}
 use Rattle.cond_text.proofs.readers.read_tokens.Given as goal
 

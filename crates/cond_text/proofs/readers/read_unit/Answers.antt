@@ -1,9 +1,9 @@
 use Rattle.std.proofs.Common.{List, ap, ◌∙◌}
 use Rattle.std.proofs.lemmas.Result.{err_from_is_err_and}
 use Rattle.gx_base.specs.Kinds.{kind_number}
-use Rattle.cond_text.specs.Machine.{Frame}
-use Rattle.cond_text.specs.Comparisons.{comparison_spelled}
-use Rattle.cond_text.specs.Sources.{reading}
+use Rattle.cond_terms.specs.Machine.{Frame}
+use Rattle.cond_terms.specs.Comparisons.{comparison_spelled}
+use Rattle.cond_terms.specs.Sources.{reading}
 use Rattle.cond_text.proofs.reading.ReaderLemmas.{unit_begun-other}
 use Rattle.cond_text.proofs.readers.read_unit.Goals as goal
 
@@ -17,4 +17,4 @@ returns-in_ok-comparison-in_default-clause-leads c =
     let read = c.in_ok-comparison-in_default in
     let same = ap kind_number (c.kind.ensures ∙ read.ensures.later.kind) in
     let begun = λ (frames : List Frame). ap (λ s. reading s c.args.source.now) (unit_begun-other frames c.args.token c.in_default.not-TrueKey c.in_default.not-FalseKey) in
-    (comparison_spelled read.comparison, rw (← same) c.draft.ensures, λ frames. begun frames ∙ read.ensures.leads frames)
+    (comparison_spelled read.comparison, rw (← same) c.draft_of.ensures, λ frames. begun frames ∙ read.ensures.leads frames)

@@ -1,6 +1,6 @@
 use Rattle.std.proofs.Common.{Some, ◌∷◌, ◌∙◌, ap}
-use Rattle.cond_text.specs.Machine.{AndLeft, Operand, conjunction_read}
-use Rattle.cond_text.specs.CodeTokens.{token_seen}
+use Rattle.cond_terms.specs.Machine.{AndLeft, Operand, conjunction_read}
+use Rattle.cond_terms.specs.CodeTokens.{token_seen}
 use Rattle.cond_text.proofs.readers.take_done.Goals as goal
 
 pub returns-in-AndKey : goal.returns-in-AndKey

@@ -1,9 +1,9 @@
 use Rattle.std.proofs.Common.{◌∷◌, ◌∙◌, ap}
 use Rattle.std.proofs.lemmas.Result.{err_from_is_err_and}
 use Rattle.gx_base.specs.Kinds.{kind_number}
-use Rattle.cond_text.specs.Machine.{Negation, Group, Operand, unit_done, operand_read}
-use Rattle.cond_text.specs.CodeTokens.{token_seen}
-use Rattle.cond_text.specs.Sources.{reading}
+use Rattle.cond_terms.specs.Machine.{Negation, Group, Operand, unit_done, operand_read}
+use Rattle.cond_terms.specs.CodeTokens.{token_seen}
+use Rattle.cond_terms.specs.Sources.{reading}
 use Rattle.cond_text.proofs.reading.ReaderLemmas.{operand_read-other}
 use Rattle.cond_text.proofs.readers.take_due.Goals as goal
 

@@ -1,5 +1,5 @@
 use Rattle.std.proofs.Common.{Some, ◌∷◌, refl, ap}
-use Rattle.cond_text.specs.Machine.{AndLeft}
+use Rattle.cond_terms.specs.Machine.{AndLeft}
 use Rattle.cond_text.proofs.levels.Conjunction.after_and.Goals as goal
 
 pub returns : goal.returns

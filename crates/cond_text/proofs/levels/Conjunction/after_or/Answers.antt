@@ -1,5 +1,5 @@
 use Rattle.std.proofs.Common.{Some, None, ◌∷◌, ◌∙◌, refl, ap}
-use Rattle.cond_text.specs.Machine.{OrLeft, or_read}
+use Rattle.cond_terms.specs.Machine.{OrLeft, or_read}
 use Rattle.cond_text.specs.Drafts.{either_of}
 use Rattle.cond_text.specs.Levels.{outside}
 use Rattle.cond_text.proofs.reading.LevelLemmas.{or_read-frames}

@@ -1,5 +1,5 @@
 use Rattle.std.proofs.Common.{◌≡◌, suc, min, ◌∷◌, ap, arith}
-use Rattle.cond_text.specs.Machine.{Negation}
+use Rattle.cond_terms.specs.Machine.{Negation}
 use Rattle.cond_text.proofs.levels.Level.after_not.Goals as goal
 use Rattle.cond_text.proofs.levels.Level.after_not.Goals.{then-nots-lt-MOST_NOTS, else-nots-lt-MOST_NOTS}
 

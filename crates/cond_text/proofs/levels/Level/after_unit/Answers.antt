@@ -1,5 +1,5 @@
 use Rattle.std.proofs.Common.{refl, ap, ◌∙◌}
-use Rattle.cond_text.specs.Machine.{unit_done}
+use Rattle.cond_terms.specs.Machine.{unit_done}
 use Rattle.cond_text.specs.Drafts.{negated_by, both_of}
 use Rattle.cond_text.specs.Levels.{outside, or_frames, and_frames}
 use Rattle.cond_text.proofs.reading.LevelLemmas.{unit_done-not, unit_done-and}

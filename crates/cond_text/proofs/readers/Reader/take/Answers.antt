@@ -1,9 +1,9 @@
 use Rattle.std.proofs.Common.{◌∙◌, ap}
 use Rattle.gx_base.specs.Kinds.{kind_number}
-use Rattle.cond_text.specs.Machine.{step}
-use Rattle.cond_text.specs.CodeTokens.{token_seen}
-use Rattle.cond_text.specs.Sources.{reading}
-use Rattle.cond_text.proofs.reading.SourceLemmas.{reading-none}
+use Rattle.cond_terms.specs.Machine.{step}
+use Rattle.cond_terms.specs.CodeTokens.{token_seen}
+use Rattle.cond_terms.specs.Sources.{reading}
+use Rattle.cond_terms.proofs.CallerLemmas.{reading-none}
 use Rattle.cond_text.proofs.reading.ReaderLemmas.{place_due, place_done, taken_some, taken_none}
 use Rattle.cond_text.proofs.readers.Reader.take.Goals as goal
 

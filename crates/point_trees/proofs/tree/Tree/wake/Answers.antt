@@ -23,7 +23,12 @@ returns c =
     subst (λ (t : Tree). Changed c.args.self.now t c.args.spot.id (Some (place c.args.spot))) (sym c.count_one.ensures)
     (woken_from c.args.self.now c.mark.new.self c.number.new.self c.args.spot c.args.key (to_z w64 (of_z w64 c.args.spot.id)) c.requires.sound c.requires.free c.requires.there (fits c.args.self.now c.args.key c.args.spot c.requires.sound c.requires.there)
     c.mark.ensures.nodes c.mark.ensures.count c.mark.ensures.rest c.number.ensures.keys c.number.ensures.rest c.requires.clear).1 in
-    record { sound = w.sound; state = w.state; kept = w.kept; counts = record {
-      size = ap (λ (t : Tree). slab_len t.nodes) c.count_one.ensures ∙ ap (λ (t : Tree). slab_len t.nodes) c.number.ensures.rest ∙ c.mark.ensures.count;
-      grown = ap (λ (t : Tree). t.grown) c.count_one.ensures ∙ ap (λ (t : Tree). t.grown) c.number.ensures.rest ∙ ap (λ (t : Tree). t.grown) c.mark.ensures.rest;
-    } }
+    record {
+      sound = w.sound;
+      state = w.state;
+      kept = w.kept;
+      counts = record {
+        size = ap (λ (t : Tree). slab_len t.nodes) c.count_one.ensures ∙ ap (λ (t : Tree). slab_len t.nodes) c.number.ensures.rest ∙ c.mark.ensures.count;
+        grown = ap (λ (t : Tree). t.grown) c.count_one.ensures ∙ ap (λ (t : Tree). t.grown) c.number.ensures.rest ∙ ap (λ (t : Tree). t.grown) c.mark.ensures.rest;
+      };
+    }

@@ -1,0 +1,3 @@
+pub mod methods
+pub mod reading
+pub mod CallerLemmas

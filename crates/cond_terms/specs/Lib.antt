@@ -1,0 +1,6 @@
+pub mod CodeTokens
+pub mod Comparisons
+pub mod LineForms
+pub mod Machine
+pub mod Sources
+pub mod TokenSteps
